@@ -1,0 +1,81 @@
+// The quantities of a reservation, each with a type of its own, the records that calls pass by value, and the limits
+// of document 01. Every crate uses them; nothing here decides anything.
+
+// The last node; nodes are numbered from 0.
+pub const LAST_NODE: u32 = 31;
+
+// The most links of a desk.
+pub const LINKS: usize = 64;
+
+// The figures of a row of the free table, one for each link that there may be.
+pub const ROW: usize = LINKS;
+
+// The most links of a path: it meets no node twice.
+pub const PATH_LINKS: usize = 31;
+
+// The most bookings that stand at a time.
+pub const BOOKINGS: usize = 64;
+
+// The last booking number; they start at 1.
+pub const MAX_NUMBER: u32 = 16383;
+
+// The largest bandwidth or capacity, in Mb/s; both start at 1.
+pub const MAX_BANDWIDTH: u32 = 1000000;
+
+// The longest duration, in minutes; durations start at 1.
+pub const MAX_DURATION: u32 = 525600;
+
+// The last minute; an open latest start is read as this one.
+pub const MAX_MINUTE: u32 = 1000000000;
+
+// The last minute for which a free figure may be asked.
+pub const MAX_SHOWN: u32 = MAX_MINUTE + MAX_DURATION;
+
+// The most events: the clock, and a start and an end for each booking.
+pub const EVENTS: usize = 2 * BOOKINGS + 1;
+
+// The figures of a place of the book: number, start, duration, bandwidth, count of links, and the path.
+pub const PLACE: usize = 5 + PATH_LINKS;
+
+// A point in time, in whole minutes.
+#[repr(C)]
+pub struct Minute(pub u32);
+
+// A length of time, in whole minutes.
+#[repr(C)]
+pub struct Duration(pub u32);
+
+// A bandwidth, in Mb/s.
+#[repr(C)]
+pub struct Bandwidth(pub u32);
+
+// A link's place in the link list, from 0.
+#[repr(C)]
+pub struct LinkNumber(pub u32);
+
+// A link from one node to another, one way.
+#[repr(C)]
+pub struct Link {
+    pub from: u32,
+    pub to: u32,
+    pub capacity: Bandwidth,
+}
+
+// What a customer asks for. A latest start that is open is given as the last minute.
+#[repr(C)]
+pub struct Request {
+    pub from: u32,
+    pub to: u32,
+    pub bandwidth: Bandwidth,
+    pub duration: Duration,
+    pub earliest: Minute,
+    pub latest: Minute,
+}
+
+// The head of a desk: its clock, its number of links and its number of standing bookings.
+#[repr(C)]
+pub struct Head {
+    pub clock: Minute,
+    pub links: u32,
+    pub bookings: u32,
+}
