@@ -1,0 +1,5 @@
+-- Laws of the definitions of `specs/`.
+pub mod Words
+pub mod Fields
+pub mod Unknown
+pub mod Examples
