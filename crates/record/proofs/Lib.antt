@@ -2,4 +2,5 @@
 pub mod Words
 pub mod Fields
 pub mod Unknown
+pub mod Reading
 pub mod Examples
