@@ -6,9 +6,25 @@ use support::Random;
 const SEED: u64 = 0x5EED_0001;
 
 /// The bytes of an order with these fields, each cut to its width.
-fn order_bytes(kind: u64, number: u64, ends: (u64, u64), bandwidth: u64, duration: u64, window: (u64, u64)) -> [u8; 16] {
+fn order_bytes(
+    kind: u64,
+    number: u64,
+    ends: (u64, u64),
+    bandwidth: u64,
+    duration: u64,
+    window: (u64, u64),
+) -> [u8; 16] {
     let mut bits: u128 = 0;
-    let fields = [(kind, 4), (number, 14), (ends.0, 5), (ends.1, 5), (bandwidth, 20), (duration, 20), (window.0, 30), (window.1, 30)];
+    let fields = [
+        (kind, 4),
+        (number, 14),
+        (ends.0, 5),
+        (ends.1, 5),
+        (bandwidth, 20),
+        (duration, 20),
+        (window.0, 30),
+        (window.1, 30),
+    ];
     for (value, width) in fields {
         bits = bits << width | (value as u128 & ((1 << width) - 1));
     }
@@ -42,7 +58,11 @@ fn same_order(bytes: &[u8], what: &str) {
     let (ours, plain) = (read_order(bytes), plain::read_order(bytes));
     assert_eq!(ours, plain, "order, {what}: bytes {bytes:02x?}");
     if ours.refusal != 0 {
-        assert_eq!(ours, OrderRecord { refusal: ours.refusal, ..OrderRecord::default() }, "a refusal leaks a field, {what}");
+        assert_eq!(
+            ours,
+            OrderRecord { refusal: ours.refusal, ..OrderRecord::default() },
+            "a refusal leaks a field, {what}"
+        );
     }
 }
 
@@ -50,7 +70,11 @@ fn same_link(bytes: &[u8], what: &str) {
     let (ours, plain) = (read_link(bytes), plain::read_link(bytes));
     assert_eq!(ours, plain, "link, {what}: bytes {bytes:02x?}");
     if ours.refusal != 0 {
-        assert_eq!(ours, LinkRecord { refusal: ours.refusal, ..LinkRecord::default() }, "a refusal leaks a field, {what}");
+        assert_eq!(
+            ours,
+            LinkRecord { refusal: ours.refusal, ..LinkRecord::default() },
+            "a refusal leaks a field, {what}"
+        );
     }
 }
 
