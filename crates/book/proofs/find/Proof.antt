@@ -1,0 +1,60 @@
+-- `find` meets its contract: no place that was passed has the number.
+use mathlib.Core.Path.{_≡_, refl, sym, ap, _∙_}
+use Prim.Native.Nat.{_-_, _≤_}
+use native.Mathlib.Omega.{arith}
+use lib.Dec.{eqb}
+use borrow.Author.Tests.{eq-eqb, ne-eqb}
+use Rattle.units.specs.Search.{firstFrom}
+use Rattle.book.specs.Places.{number-at, standing, find}
+use Rattle.book.proofs.Finding.{found-here, found-after, found-none}
+use Rattle.book.proofs.find.Statement.{statement}
+use Rattle.book.proofs.find.Tie as tie
+
+abbrev Inv-loop : tie.InvT-loop
+Inv-loop book count number place₀ place = (place ≤ count) × (find number book count ≡ standing (firstFrom place (count - place) (λ i. eqb (number-at book i) number)))
+
+abbrev μ-loop : tie.MeasureT-loop
+μ-loop book count number place₀ place = count - place
+
+loop-holds : tie.Need-loop-holds Inv-loop μ-loop
+loop-holds c = (omega arith, ?a)
+
+mul-if1 : tie.Need-mul-if1 Inv-loop μ-loop
+mul-if1 c = omega arith
+
+mul-if1-2 : tie.Need-mul-if1-2 Inv-loop μ-loop
+mul-if1-2 c = omega arith
+
+shared-slice-read-if1 : tie.Need-shared-slice-read-if1 Inv-loop μ-loop
+shared-slice-read-if1 c = omega arith
+
+returns : tie.Need-returns Inv-loop μ-loop
+returns c = ?b
+
+add-place : tie.Need-add-place Inv-loop μ-loop
+add-place c = omega arith
+
+loop-less : tie.Need-loop-less Inv-loop μ-loop
+loop-less c = omega arith
+
+loop-again : tie.Need-loop-again Inv-loop μ-loop
+loop-again c = (omega arith, ?c)
+
+returns-2 : tie.Need-returns-2 Inv-loop μ-loop
+returns-2 c = ?d
+
+pub find-spec : {M : Type 1} → statement M
+find-spec =
+    tie.close
+    (tie.spec
+    Inv-loop
+    μ-loop
+    loop-holds
+    mul-if1
+    mul-if1-2
+    shared-slice-read-if1
+    returns
+    add-place
+    loop-less
+    loop-again
+    returns-2)

@@ -1,0 +1,74 @@
+-- The book table as its owner lends it: places of thirty-six figures, a booking each. It knows nothing of what is free.
+use mathlib.Core.List.{List, [], _∷_, _++_, map, flatten}
+use mathlib.Core.Bool.{Bool, true, false}
+use Prim.Native.Nat.{ℕ, zero, suc, _+_, _*_}
+use lib.Dec.{leb, ltb, eqb}
+use lib.ListN.{getD, take, drop, replicate}
+use Rattle.units.specs.Limits.{most-hops, most-bookings, place-size}
+use Rattle.units.specs.Lists.{padded, count-from, select, put-in}
+use Rattle.units.specs.Search.{Found, at, nothing, firstFrom}
+use Rattle.book.specs.declared.Booking.{Booking}
+use Rattle.book.specs.declared.Standing.{Standing}
+use Rattle.book.specs.declared.Standing.the-variants.{At, Nowhere}
+
+-- the booking number at place i
+abbrev pub number-at : List ℕ → ℕ → ℕ
+number-at book i = getD book (i * place-size) 0
+
+-- document 01's booking at place i: number, start, duration, bandwidth, count of links, and the path with the zeros behind it
+unfoldable pub booking-in : List ℕ → ℕ → Booking
+booking-in book i = record {
+  number = number-at book i;
+  start = record { 0 = getD book (i * place-size + 1) 0 };
+  duration = record { 0 = getD book (i * place-size + 2) 0 };
+  bandwidth = record { 0 = getD book (i * place-size + 3) 0 };
+  count = getD book (i * place-size + 4) 0;
+  links = take most-hops (drop (i * place-size + 5) book);
+}
+
+-- its thirty-six figures
+abbrev pub figures : Booking → List ℕ
+figures b = b .number ∷ b .start .0 ∷ b .duration .0 ∷ b .bandwidth .0 ∷ b .count ∷ b .links
+
+-- the minute at which a booking releases its links: its start plus the minutes for which it holds them
+abbrev pub release : ℕ → ℕ → ℕ
+release start held = start + held
+
+-- where a number stands among the first n places
+abbrev pub standing : Found → Standing
+standing (at i) = At i
+standing nothing = Nowhere
+
+unfoldable pub find : ℕ → List ℕ → ℕ → Standing
+find number book n = standing (firstFrom 0 n (λ i. eqb (number-at book i) number))
+
+-- the place of a new number: how many of the places from i on, n in all, have a number at or below it before one has not
+unfoldable pub slot-from : ℕ → List ℕ → ℕ → ℕ → ℕ
+slot-from number book i zero = 0
+slot-from number book i (suc n) = elim (leb (number-at book i) number) [ true ↦ suc (slot-from number book (suc i) n) | false ↦ 0 ]
+
+-- the book with a booking put in at place i: those behind it move up
+unfoldable pub with-booking : ℕ → Booking → List ℕ → List ℕ
+with-booking i b book = put-in (i * place-size) (figures b) book
+
+-- the book without place i: those behind it move down, and the last place is zero
+unfoldable pub without-place : ℕ → List ℕ → List ℕ
+without-place i book = take (i * place-size) book ++ (drop (i * place-size + place-size) book ++ replicate place-size 0)
+
+-- the thirty-six figures of place i, and those of the first n places
+abbrev pub place-in : List ℕ → ℕ → List ℕ
+place-in book i = take place-size (drop (i * place-size) book)
+
+abbrev pub places-in : List ℕ → ℕ → List (List ℕ)
+places-in book n = map (place-in book) (count-from 0 n)
+
+-- document 01's 'stands': the booking of these figures releases its links later than the clock
+abbrev pub stands-at : ℕ → List ℕ → Bool
+stands-at clock place = ltb clock (release (getD place 1 0) (getD place 2 0))
+
+-- the first n places that still stand at the clock, with zeros behind them, and how many they are
+unfoldable pub still-standing : ℕ → List ℕ → ℕ → List (List ℕ)
+still-standing clock book n = select (stands-at clock) (places-in book n)
+
+abbrev pub only-places : List (List ℕ) → List ℕ
+only-places places = padded (most-bookings * place-size) (flatten places)
