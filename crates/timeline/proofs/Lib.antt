@@ -1,0 +1,7 @@
+-- Laws of the events, of the row that holds in a minute and of spans of minutes, for rows of any kind.
+pub mod Events
+pub mod Steady
+pub mod Rows
+pub mod Spans
+mod Pieces
+mod Counts
