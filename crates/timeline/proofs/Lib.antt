@@ -5,3 +5,4 @@ pub mod Rows
 pub mod Spans
 mod Pieces
 mod Counts
+mod Insertion

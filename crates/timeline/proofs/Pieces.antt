@@ -7,6 +7,7 @@ use native.Mathlib.Omega.{arith}
 use borrow.Author.Fill.{fill-more}
 use lib.ListN.{length, getD, set, take, drop, replicate, take-append-drop, length-drop, List·getD-append}
 use lib.Seq.{take-suc, drop-cons, take-add, drop-drop, drop-length, getD-take, set-at, append-snoc, take-length, length-take-le}
+use Rattle.units.specs.Lists.{padded}
 use Rattle.timeline.specs.Insertion.{put-in}
 
 -- ---- clearing
@@ -35,6 +36,11 @@ cleared-more from i l h k = rw add-one (cleared-next from i l h k)
 
 pub cleared-all : (from i : ℕ) (l : List ℕ) → i ≡ length l → cleared from i l ≡ take from l ++ replicate (length l - from) 0
 cleared-all from i l e = rw (e, drop-length, append-nil)
+
+-- the clock, and zeros behind it
+pub clock-alone : (n clock : ℕ) (es : List ℕ) → length es ≡ n → 0 < n → take 1 (set es 0 clock) ++ replicate (length (set es 0 clock) - 1) 0 ≡ padded n (clock ∷ [])
+clock-alone n clock [] e h = absurd (omega arith)
+clock-alone n clock (x ∷ es) e h = rw e
 
 -- ---- a piece again
 

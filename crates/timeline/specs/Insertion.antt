@@ -6,6 +6,7 @@ use Prim.Native.Nat.{ℕ, zero, suc, _+_, _-_, _*_, _≤_}
 use lib.Dec.{ltb}
 use lib.ListN.{length, getD, take, drop}
 use Rattle.units.specs.Limits.{most-links, most-events}
+use Rattle.units.specs.Lists.{padded}
 use Rattle.timeline.specs.Events.{row-at}
 
 -- how many stand before the first zero
@@ -18,6 +19,10 @@ filled (suc e ∷ es) = suc (filled es)
 unfoldable pub count-events : List ℕ → ℕ
 count-events [] = 0
 count-events (clock ∷ es) = suc (filled es)
+
+-- document 01's events of a desk without bookings: the clock alone
+unfoldable pub only-clock : ℕ → List ℕ
+only-clock clock = padded most-events (clock ∷ [])
 
 -- a piece put in at a place: what stood there and behind it moves up, and what then has no room is dropped
 abbrev pub put-in : ℕ → List ℕ → List ℕ → List ℕ

@@ -1,16 +1,15 @@
 // The event table and the rows beside it, as their owner lends them: the row that holds in a minute, the count of events,
 // and one event, or the two of a span, put in with a copy of the row before. The free table and the desk call this; it
 // never looks at what a row holds.
-use units::{Minute, ROW};
-
+use units::Minute;
+use units::ROW;
 ghost use mathlib.Core.Path.{_≡_};
-ghost use mathlib.Core.List.{List, [], _∷_, _++_};
+ghost use mathlib.Core.List.{_++_};
 ghost use Prim.Native.Nat.{ℕ, _+_, _-_, _*_, _≤_, _<_};
 ghost use lib.ListN.{length, take, drop, replicate};
 ghost use Rattle.units.specs.Limits.{most-links, most-events};
-ghost use Rattle.units.specs.Lists.{padded};
 ghost use Rattle.timeline.specs.Events.{row-at};
-ghost use Rattle.timeline.specs.Insertion.{count-events, put-in, with-event, with-row, with-span, with-span-rows, Room};
+ghost use Rattle.timeline.specs.Insertion.{count-events, only-clock, put-in, with-event, with-row, with-span, with-span-rows, Room};
 
 // The row that holds in a minute: that of the last event at or before it, or the first one where there is none.
 #[no_mangle]
@@ -65,7 +64,7 @@ pub fn clear_from(table: &mut [u32], from: usize)
 #[no_mangle]
 pub extern "C" fn reset_events(events: &mut [u32], clock: Minute)
     requires { ⌜ length (now events) ≡ most-events ⌝ }
-    ensures { λ _. ⌜ now (events .exit) ≡ padded most-events (clock .0 ∷ []) ⌝ }
+    ensures { λ _. ⌜ now (events .exit) ≡ only-clock (clock .0) ⌝ }
 {
     events[0] = clock.0;
     clear_from(events, 1);
@@ -88,7 +87,7 @@ fn repeat_piece(table: &mut [u32], from: usize, size: usize)
 pub extern "C" fn insert_event(events: &mut [u32], rows: &mut [u32], minute: Minute)
     requires { ⌜ Room (now events) (now rows) 1 ⌝ }
     ensures { λ _. ⌜ (now (events .exit) ≡ with-event (minute .0) (now (events .entry)))
-      × (now (rows .exit) ≡ with-row most-links (now (events .entry)) (minute .0) (now (rows .entry))) ⌝ }
+        × (now (rows .exit) ≡ with-row most-links (now (events .entry)) (minute .0) (now (rows .entry))) ⌝ }
 {
     let row = row_at(events, minute);
     if minute.0 <= events[row] {
@@ -104,7 +103,7 @@ pub extern "C" fn insert_event(events: &mut [u32], rows: &mut [u32], minute: Min
 pub extern "C" fn insert_span(events: &mut [u32], rows: &mut [u32], start: Minute, end: Minute)
     requires { ⌜ Room (now events) (now rows) 2 ⌝ }
     ensures { λ _. ⌜ (now (events .exit) ≡ with-span (start .0) (end .0) (now (events .entry)))
-      × (now (rows .exit) ≡ with-span-rows most-links (now (events .entry)) (start .0) (end .0) (now (rows .entry))) ⌝ }
+        × (now (rows .exit) ≡ with-span-rows most-links (now (events .entry)) (start .0) (end .0) (now (rows .entry))) ⌝ }
 {
     insert_event(events, rows, end);
     insert_event(events, rows, start);

@@ -6,8 +6,6 @@ use lib.ListN.{length, set, length-set}
 use Rattle.timeline.proofs.Pieces.{cleared, cleared-none, cleared-more, cleared-all}
 use Rattle.timeline.proofs.clear_from.Statement.{statement}
 use Rattle.timeline.proofs.clear_from.Tie as tie
-use Rattle.timeline.proofs.clear_from.Reads as reads
-use Rattle.timeline.proofs.clear_from.Lts as lts
 
 abbrev Inv-loop : tie.InvT-loop
 Inv-loop table₀ from i₀ table i = (from ≤ i) × ((i ≤ length table₀) × ((length table ≡ length table₀) × (table ≡ cleared from i table₀)))

@@ -7,8 +7,6 @@ use Rattle.timeline.specs.Insertion.{filled, count-events}
 use Rattle.timeline.proofs.Counts.{count-none, count-first, filled-zero, filled-next, filled-past}
 use Rattle.timeline.proofs.count_events.Statement.{statement}
 use Rattle.timeline.proofs.count_events.Tie as tie
-use Rattle.timeline.proofs.count_events.Reads as reads
-use Rattle.timeline.proofs.count_events.Lts as lts
 
 abbrev Inv-loop : tie.InvT-loop
 Inv-loop events count₀ count = (count ≤ length events) × (count-events events ≡ count + filled (drop count events))
@@ -16,45 +14,36 @@ Inv-loop events count₀ count = (count ≤ length events) × (count-events even
 abbrev μ-loop : tie.MeasureT-loop
 μ-loop events count₀ count = length events - count
 
--- src/lib.rt:40:9
 returns : tie.Need-returns Inv-loop μ-loop
 returns c = sym (count-none (c .before .args .events .now) (omega arith))
 
--- src/lib.rt:43:5
 loop-holds : tie.Need-loop-holds Inv-loop μ-loop
 loop-holds c = (omega arith, count-first (c .before .args .events .now) (c .if1 .left))
 
--- src/lib.rt:44:12
 mul-if2 : tie.Need-mul-if2 Inv-loop μ-loop
 mul-if2 c = omega arith
 
--- src/lib.rt:44:12
 shared-slice-read-if2 : tie.Need-shared-slice-read-if2 Inv-loop μ-loop
 shared-slice-read-if2 c = omega arith
 
--- src/lib.rt:45:13
 returns-2 : tie.Need-returns-2 Inv-loop μ-loop
 returns-2 c =
     let l = c .before .before .before .loop in
     let a = c .before .before .before .before .before .args in
     omega (arith, filled-zero (a .events .now) (l .count) (omega arith) (c .if2 .taken))
 
--- src/lib.rt:47:9
 add-count : tie.Need-add-count Inv-loop μ-loop
 add-count c = omega arith
 
--- src/lib.rt:43:5
 loop-less : tie.Need-loop-less Inv-loop μ-loop
 loop-less c = omega arith
 
--- src/lib.rt:43:5
 loop-again : tie.Need-loop-again Inv-loop μ-loop
 loop-again c =
     let l = c .before .before .before .loop in
     let a = c .before .before .before .before .before .args in
     (omega arith, omega (arith, filled-next (a .events .now) (l .count) (omega arith) (c .if2 .left)))
 
--- src/lib.rt:35:1
 returns-3 : tie.Need-returns-3 Inv-loop μ-loop
 returns-3 c =
     let l = c .before .loop in

@@ -6,8 +6,6 @@ use lib.ListN.{length, getD, set, length-set}
 use Rattle.timeline.proofs.Pieces.{moved, moved-none, moved-more, moved-all}
 use Rattle.timeline.proofs.repeat_piece.Statement.{statement}
 use Rattle.timeline.proofs.repeat_piece.Tie as tie
-use Rattle.timeline.proofs.repeat_piece.Reads as reads
-use Rattle.timeline.proofs.repeat_piece.Lts as lts
 
 abbrev Inv-loop : tie.InvT-loop
 Inv-loop table₀ from size i₀ table i = (from + size ≤ i) × ((i ≤ length table₀) × ((length table ≡ length table₀) × (table ≡ moved size i table₀)))
@@ -15,43 +13,33 @@ Inv-loop table₀ from size i₀ table i = (from + size ≤ i) × ((i ≤ length
 abbrev μ-loop : tie.MeasureT-loop
 μ-loop table₀ from size i₀ table i = i
 
--- src/lib.rt:80:5
 loop-holds : tie.Need-loop-holds Inv-loop μ-loop
 loop-holds c = (omega arith, (omega arith, (omega arith, moved-none (c .args .size) (length (c .args .table .now)) (c .args .table .now) refl)))
 
--- src/lib.rt:80:11
 add-loop : tie.Need-add-loop Inv-loop μ-loop
 add-loop c = omega arith
 
--- src/lib.rt:81:9
 sub-i : tie.Need-sub-i Inv-loop μ-loop
 sub-i c = omega arith
 
--- src/lib.rt:82:26
 sub-table : tie.Need-sub-table Inv-loop μ-loop
 sub-table c = omega arith
 
--- src/lib.rt:82:20
 mul-table : tie.Need-mul-table Inv-loop μ-loop
 mul-table c = omega arith
 
--- src/lib.rt:82:20
 slice-read-table : tie.Need-slice-read-table Inv-loop μ-loop
 slice-read-table c = omega arith
 
--- src/lib.rt:82:9
 mul-table-2 : tie.Need-mul-table-2 Inv-loop μ-loop
 mul-table-2 c = omega arith
 
--- src/lib.rt:82:9
 slice-write-table : tie.Need-slice-write-table Inv-loop μ-loop
 slice-write-table c = omega arith
 
--- src/lib.rt:80:5
 loop-less : tie.Need-loop-less Inv-loop μ-loop
 loop-less c = omega arith
 
--- src/lib.rt:80:5
 loop-again : tie.Need-loop-again Inv-loop μ-loop
 loop-again c =
     let l = c .before .before .loop in
@@ -60,11 +48,9 @@ loop-again c =
       (omega arith, (simp length-set (omega arith), ap (λ t. set t (l .i - 1) (getD t (l .i - 1 - a .size) 0)) (l .inv .1 .1 .1) ∙ moved-more (a .size) (l .i) (a .table .now) (omega arith) (omega arith))),
     )
 
--- src/lib.rt:75:1
 same-length : tie.Need-same-length Inv-loop μ-loop
 same-length c = omega arith
 
--- src/lib.rt:75:1
 returns : tie.Need-returns Inv-loop μ-loop
 returns c =
     let l = c .before .loop in

@@ -1,25 +1,28 @@
+-- `reset_events` meets its contract: the clock is stored, and zeros behind it.
+use mathlib.Core.Path.{_∙_}
+use native.Mathlib.Omega.{arith}
+use lib.ListN.{length-set}
+use Rattle.units.specs.Limits.{most-events}
+use Rattle.timeline.specs.Insertion.{only-clock}
+use Rattle.timeline.proofs.Pieces.{clock-alone}
 use borrow.Author.Needs.{needs}
 use Rattle.timeline.proofs.reset_events.Statement.{statement}
 use Rattle.timeline.proofs.reset_events.Tie as tie
-use Rattle.timeline.proofs.reset_events.Reads as reads
-use Rattle.timeline.proofs.reset_events.Lts as lts
-use Rattle.timeline.proofs.clear_from.Reads as clear-from-reads
 
--- src/lib.rt:70:5
 slice-write-events : tie.Need-slice-write-events
 slice-write-events c = search needs
 
--- src/lib.rt:71:5
 clear-from-requires : tie.Need-clear-from-requires
-clear-from-requires c κs = ?
+clear-from-requires c κs = simp length-set (omega arith)
 
--- src/lib.rt:65:1
 same-length : tie.Need-same-length
-same-length c = ?
+same-length c = c .before .before .clear-from .kept .0 ∙ simp length-set
 
--- src/lib.rt:65:1
 returns : tie.Need-returns
-returns c = ?
+unfolding only-clock
+returns c =
+    let s = c .before .before .before .before .before in
+    c .before .before .clear-from .ensures ∙ clock-alone most-events (s .args .clock .0) (s .args .events .now) (s .pre) (omega arith)
 
 pub reset-events-spec : {M : Type 1} → statement M
 reset-events-spec = tie.close (tie.spec slice-write-events clear-from-requires same-length returns)

@@ -7,8 +7,6 @@ use Rattle.timeline.specs.Events.{passed, row-at}
 use Rattle.timeline.proofs.Rows.{row-at-rest, passed-zero, passed-late, passed-next, passed-past}
 use Rattle.timeline.proofs.row_at.Statement.{statement}
 use Rattle.timeline.proofs.row_at.Tie as tie
-use Rattle.timeline.proofs.row_at.Reads as reads
-use Rattle.timeline.proofs.row_at.Lts as lts
 
 abbrev Inv-loop : tie.InvT-loop
 Inv-loop events minute row₀ row = (row ≤ length events) × (row-at events (minute .0) ≡ row + passed (minute .0) (drop (row + 1) events))
@@ -16,56 +14,45 @@ Inv-loop events minute row₀ row = (row ≤ length events) × (row-at events (m
 abbrev μ-loop : tie.MeasureT-loop
 μ-loop events minute row₀ row = length events - row
 
--- src/lib.rt:21:5
 loop-holds : tie.Need-loop-holds Inv-loop μ-loop
 loop-holds c = (omega arith, omega (arith, row-at-rest (c .args .minute .0) (c .args .events .now)))
 
--- src/lib.rt:21:11
 add-loop : tie.Need-add-loop Inv-loop μ-loop
 add-loop c = omega arith
 
--- src/lib.rt:22:27
 add-next : tie.Need-add-next Inv-loop μ-loop
 add-next c = omega arith
 
--- src/lib.rt:22:20
 mul-next : tie.Need-mul-next Inv-loop μ-loop
 mul-next c = omega arith
 
--- src/lib.rt:22:20
 shared-slice-read-next : tie.Need-shared-slice-read-next Inv-loop μ-loop
 shared-slice-read-next c = omega arith
 
--- src/lib.rt:24:13
 returns : tie.Need-returns Inv-loop μ-loop
 returns c =
     let l = c .before .before .before .loop in
     let a = c .before .before .before .before .args in
     omega (arith, passed-zero (a .minute .0) (a .events .now) (l .row + 1) (omega arith) (c .if1 .taken))
 
--- src/lib.rt:27:13
 returns-2 : tie.Need-returns-2 Inv-loop μ-loop
 returns-2 c =
     let l = c .before .before .before .before .before .loop in
     let a = c .before .before .before .before .before .before .args in
     omega (arith, passed-late (a .minute .0) (a .events .now) (l .row + 1) (omega arith) (c .if2 .taken))
 
--- src/lib.rt:29:9
 add-row : tie.Need-add-row Inv-loop μ-loop
 add-row c = omega arith
 
--- src/lib.rt:21:5
 loop-less : tie.Need-loop-less Inv-loop μ-loop
 loop-less c = omega arith
 
--- src/lib.rt:21:5
 loop-again : tie.Need-loop-again Inv-loop μ-loop
 loop-again c =
     let l = c .before .before .before .before .before .loop in
     let a = c .before .before .before .before .before .before .args in
     (omega arith, omega (arith, passed-next (a .minute .0) (a .events .now) (l .row + 1) (omega arith) (c .before .before .if1 .left) (c .if2 .left)))
 
--- src/lib.rt:16:1
 returns-3 : tie.Need-returns-3 Inv-loop μ-loop
 returns-3 c =
     let l = c .before .loop in
