@@ -6,12 +6,12 @@ use Prim.Native.Nat.{ℕ, zero, suc, _+_, _-_, _*_, _≤_, _<_}
 use native.Mathlib.Numerals.{add-one}
 use native.Mathlib.Omega.{arith}
 use lib.Dec.{leb, ltb}
-use lib.ListN.{length, getD, set, take, drop, length-append, length-take, length-drop}
-use lib.Seq.{drop-cons, length-take-le, set-at}
+use lib.ListN.{length, getD, take, drop, length-append, length-take, length-drop}
 use borrow.Author.Tests.{lt-ltb, le-ltb, ltb-true}
 use Rattle.units.specs.Limits.{most-links, most-events}
 use Rattle.timeline.specs.Events.{further, passed, row-at}
 use Rattle.timeline.specs.Insertion.{filled, count-events, put-in, missing, if-missing, with-event, with-row, Room}
+use Rattle.timeline.proofs.Pieces.{put-in-part}
 
 -- ---- the row that holds is one of the events
 
@@ -54,20 +54,16 @@ module _ (m : ℕ) (es : List ℕ) where
   unfolding with-row
   with-row-new width rows h = rw (lt-ltb (getD es (row-at es m) 0) m h)
 
-  module _ (i : ℕ) (found : i ≡ row-at es m) where
-    -- the event before it is put in again and then written over
-    pub event-put : getD es i 0 < m → i + 2 ≤ length es → set (put-in (i + 1) (take 1 (drop i es)) es) (i + 1) m ≡ with-event m es
-    event-put h k =
-        ap (λ (p : List ℕ). set (put-in (i + 1) p es) (i + 1) m) (ap (take 1) (drop-cons es i 0 (omega arith)))
-        ∙ set-at (take (i + 1) es) (getD es i 0) (take (length es - (i + 1 + 1)) (drop (i + 1) es)) m (i + 1) (length-take-le (i + 1) es (omega arith))
-        ∙ ap (λ j. put-in j (m ∷ []) es) (add-one i ∙ ap suc found)
-        ∙ sym (with-event-new (rw found at h))
+-- what the code does to the two tables behind row i, where that is the row that holds
+module _ (m : ℕ) (es : List ℕ) (i : ℕ) (found : i ≡ row-at es m) (h : getD es i 0 < m) where
+  pub event-put : take i es ++ put-in 1 (m ∷ []) (drop i es) ≡ with-event m es
+  event-put = put-in-part i 1 (m ∷ []) es ∙ ap (λ j. put-in j (m ∷ []) es) (add-one i ∙ ap suc found) ∙ sym (with-event-new m es (rw found at h))
 
-    -- the row before it is put in again
-    pub row-put : (width : ℕ) (rows : List ℕ) → getD es i 0 < m → put-in (i * width + width) (take width (drop (i * width) rows)) rows ≡ with-row width es m rows
-    row-put width rows h =
-        let e : i * width + width ≡ suc i * width = omega arith in
-        rw e (ap (λ j. put-in (suc j * width) (take width (drop (j * width) rows)) rows) found ∙ sym (with-row-new width rows (rw found at h)))
+  pub row-put : (width : ℕ) (rows : List ℕ) → take (i * width) rows ++ put-in width (take width (drop (i * width) rows)) (drop (i * width) rows) ≡ with-row width es m rows
+  row-put width rows =
+      let e : i * width + width ≡ suc i * width = omega arith in
+      put-in-part (i * width) width (take width (drop (i * width) rows)) rows
+      ∙ rw e (ap (λ j. put-in (suc j * width) (take width (drop (j * width) rows)) rows) found ∙ sym (with-row-new m es width rows (rw found at h)))
 
 -- ---- sizes
 

@@ -1,12 +1,13 @@
 -- Lists that a loop changes place by place: cleared from a place on, and a piece put in again behind itself.
 use mathlib.Core.Path.{_≡_, refl, sym, ap, ap₂, _∙_}
-use mathlib.Core.List.{List, [], _∷_, _++_, append-nil}
+use mathlib.Core.List.{List, [], _∷_, _++_, append-nil, append-assoc}
 use Prim.Native.Nat.{ℕ, zero, suc, _+_, _-_, _≤_, _<_}
 use native.Mathlib.Numerals.{add-one}
 use native.Mathlib.Omega.{arith}
 use borrow.Author.Fill.{fill-more}
+use borrow.Rule.Slice.PartMut.{putMid, post-is}
 use lib.ListN.{length, getD, set, take, drop, replicate, take-append-drop, length-drop, List·getD-append}
-use lib.Seq.{take-suc, drop-cons, take-add, drop-drop, drop-length, getD-take, set-at, append-snoc, take-length, length-take-le}
+use lib.Seq.{take-suc, drop-cons, take-add, drop-drop, drop-length, getD-take, set-at, append-snoc, take-length, take-all, length-take-le}
 use Rattle.units.specs.Lists.{padded}
 use Rattle.timeline.specs.Insertion.{put-in}
 
@@ -83,17 +84,45 @@ moved-more size i l h k =
     let e : i ≡ suc (i - 1) = omega arith in
     ap (λ n. set (moved size n l) (i - 1) (getD (moved size n l) (i - 1 - size) 0)) e ∙ moved-next size (i - 1) l (omega arith) (omega arith)
 
-pub moved-all : (from size : ℕ) (l : List ℕ) → from + (size + size) ≤ length l → moved size (from + size) l ≡ put-in (from + size) (take size (drop from l)) l
-moved-all from size l h = ap (λ (r : List ℕ). take (from + size) l ++ r) (ap₂ take count (ap (λ i. drop i l) (start)) ∙ take-add size rest (drop from l) ∙ ap₂ (λ n (r : List ℕ). take size (drop from l) ++ take n r) (more) (drop-drop size from l))
+pub moved-all : (size : ℕ) (l : List ℕ) → size + size ≤ length l → moved size size l ≡ put-in size (take size l) l
+moved-all size l h = ap (λ (r : List ℕ). take size l ++ r) (ap₂ (λ n i. take n (drop i l)) count start ∙ take-add size rest l ∙ ap (λ n. take size l ++ take n (drop size l)) more)
   where
     rest : ℕ
-    rest = length l - (from + (size + size))
+    rest = length l - (size + size)
 
-    start : from + size - size ≡ from
+    start : size - size ≡ 0
     start = omega arith
 
-    count : length l - (from + size) ≡ size + rest
+    count : length l - size ≡ size + rest
     count = omega arith
 
-    more : rest ≡ length l - (from + size + length (take size (drop from l)))
-    more = rw (length-take-le size (drop from l) (rw length-drop (omega arith))) (omega arith)
+    more : rest ≡ length l - (size + length (take size l))
+    more = rw (length-take-le size l (omega arith)) refl
+
+-- ---- a part from `from` to the end, lent and come back
+
+pub rest-whole : (from : ℕ) (l : List ℕ) → take (length l - from) (drop from l) ≡ drop from l
+rest-whole from l = take-all (length l - from) (drop from l) (rw length-drop (omega arith))
+
+pub length-rest : (from : ℕ) (l : List ℕ) → length (take (length l - from) (drop from l)) ≡ length l - from
+length-rest from l = rw (rest-whole, length-drop)
+
+-- what a callee did to the part, said of the whole
+pub part-back : (from : ℕ) (l last : List ℕ) (f : List ℕ → List ℕ) → from ≤ length l → last ≡ f (take (length l - from) (drop from l))
+    → putMid from (length l - from) l last ≡ take from l ++ f (drop from l)
+part-back from l last f h e =
+    ap₂ (λ (x y : List ℕ). take from l ++ (x ++ y)) (e ∙ ap f (rest-whole from l)) (post-is from (length l) l h ∙ drop-length l) ∙ rw append-nil
+
+-- what is put into a part is put into the whole
+pub put-in-part : (from at : ℕ) (piece l : List ℕ) → take from l ++ put-in at piece (drop from l) ≡ put-in (from + at) piece l
+put-in-part from at piece l =
+    sym (append-assoc (take from l) (take at (drop from l)) _)
+    ∙ ap₂ _++_ (sym (take-add from at l)) (ap₂ (λ n (r : List ℕ). piece ++ take n r) count (drop-drop at from l))
+  where
+    count : length (drop from l) - (at + length piece) ≡ length l - (from + at + length piece)
+    count = rw length-drop (omega arith)
+
+-- the first piece of a part, put in again behind itself and then written over
+pub written-over : (m : ℕ) (l : List ℕ) → 2 ≤ length l → set (put-in 1 (take 1 l) l) 1 m ≡ put-in 1 (m ∷ []) l
+written-over m [] h = absurd (omega arith)
+written-over m (x ∷ l) h = refl

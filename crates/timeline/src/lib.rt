@@ -4,9 +4,9 @@
 use units::Minute;
 use units::ROW;
 ghost use mathlib.Core.Path.{_≡_};
-ghost use mathlib.Core.List.{_++_};
-ghost use Prim.Native.Nat.{ℕ, _+_, _-_, _*_, _≤_, _<_};
-ghost use lib.ListN.{length, take, drop, replicate};
+ghost use mathlib.Core.List.{[], _∷_, _++_};
+ghost use Prim.Native.Nat.{_+_, _-_, _≤_};
+ghost use lib.ListN.{length, take, replicate};
 ghost use Rattle.units.specs.Limits.{most-links, most-events};
 ghost use Rattle.timeline.specs.Events.{row-at};
 ghost use Rattle.timeline.specs.Insertion.{count-events, only-clock, put-in, with-event, with-row, with-span, with-span-rows, Room};
@@ -70,16 +70,29 @@ pub extern "C" fn reset_events(events: &mut [u32], clock: Minute)
     clear_from(events, 1);
 }
 
-// Puts the piece of `size` places that starts at `from` in again behind itself; what stood there moves up.
-fn repeat_piece(table: &mut [u32], from: usize, size: usize)
-    requires { ⌜ from + (size + size) ≤ length (now table) ⌝ }
-    ensures { λ _. ⌜ now (table .exit) ≡ put-in (from + size) (take size (drop from (now (table .entry)))) (now (table .entry)) ⌝ }
+// Puts the first row of the part in again behind itself; the rows behind it move up, and the last is dropped.
+fn repeat_row(part: &mut [u32])
+    requires { ⌜ most-links + most-links ≤ length (now part) ⌝ }
+    ensures { λ _. ⌜ now (part .exit) ≡ put-in most-links (take most-links (now (part .entry))) (now (part .entry)) ⌝ }
 {
-    let mut i = table.len();
-    while from + size < i {
+    let mut i = part.len();
+    while ROW < i {
         i -= 1;
-        table[i] = table[i - size];
+        part[i] = part[i - ROW];
     }
+}
+
+// Puts an event in behind the first of the part; the events behind it move up, and the last place is dropped.
+fn put_event(part: &mut [u32], minute: Minute)
+    requires { ⌜ 2 ≤ length (now part) ⌝ }
+    ensures { λ _. ⌜ now (part .exit) ≡ put-in 1 (minute .0 ∷ []) (now (part .entry)) ⌝ }
+{
+    let mut i = part.len();
+    while 1 < i {
+        i -= 1;
+        part[i] = part[i - 1];
+    }
+    part[1] = minute.0;
 }
 
 // Puts an event in where it is later than the clock and missing, with a copy of the row before it.
@@ -93,9 +106,9 @@ pub extern "C" fn insert_event(events: &mut [u32], rows: &mut [u32], minute: Min
     if minute.0 <= events[row] {
         return;
     }
-    repeat_piece(rows, row * ROW, ROW);
-    repeat_piece(events, row, 1);
-    events[row + 1] = minute.0;
+    let from = row * ROW;
+    repeat_row(&mut rows[from..]);
+    put_event(&mut events[row..], minute);
 }
 
 // Puts the start and the end of a span in, each where it is later than the clock and missing.
