@@ -6,3 +6,4 @@ pub mod Spans
 mod Pieces
 mod Counts
 mod Insertion
+pub mod Inserted

@@ -1,13 +1,13 @@
 -- The row that `row-at` finds, as a loop over an event table finds it.
 use mathlib.Core.Path.{_≡_, refl, sym, ap, ap₂, _∙_}
 use mathlib.Core.Logic.{_⊎_, inl, inr}
-use mathlib.Core.List.{List, [], _∷_}
+use mathlib.Core.List.{List, [], _∷_, _++_}
 use mathlib.Core.Bool.{false}
 use Prim.Native.Nat.{ℕ, zero, suc, _+_, _≤_, _<_}
 use native.Mathlib.Numerals.{add-one}
 use native.Mathlib.Omega.{arith}
 use lib.Dec.{leb, ltb, eqb}
-use lib.ListN.{length, getD, drop, drop-of-length-le}
+use lib.ListN.{length, getD, drop, replicate, drop-of-length-le}
 use lib.Seq.{drop-cons}
 use borrow.Author.Tests.{le-leb, lt-leb, lt-ltb, le-ltb, eqb-false}
 use Rattle.units.specs.Lists.{member}
@@ -40,6 +40,14 @@ module _ (m : ℕ) (es : List ℕ) (i : ℕ) where
 
   pub passed-next : i < length es → (getD es i 0 ≡ 0 → ⊥) → getD es i 0 ≤ m → passed m (drop i es) ≡ 1 + passed m (drop (i + 1) es)
   passed-next h p k = rw add-one (ap (passed m) (drop-cons es i 0 h) ∙ early m (getD es i 0) (drop (suc i) es) p k)
+
+-- zeros behind the events are not passed
+pub passed-padded : (m : ℕ) (es : List ℕ) (n : ℕ) → passed m (es ++ replicate n 0) ≡ passed m es
+unfolding passed
+passed-padded m [] zero = refl
+passed-padded m [] (suc n) = refl
+passed-padded m (zero ∷ es) n = refl
+passed-padded m (suc e ∷ es) n = ap (further (leb (suc e) m)) (passed-padded m es n)
 
 pub row-at-rest : (m : ℕ) (es : List ℕ) → row-at es m ≡ passed m (drop 1 es)
 unfolding row-at passed
