@@ -2,14 +2,14 @@
 use mathlib.Core.Path.{_≡_, refl, sym, ap, ap₂, _∙_}
 use mathlib.Core.Logic.{_⊎_, inl, inr}
 use mathlib.Core.List.{List, [], _∷_, _++_}
-use mathlib.Core.Bool.{false}
+use mathlib.Core.Bool.{Bool, true, false}
 use Prim.Native.Nat.{ℕ, zero, suc, _+_, _≤_, _<_}
 use native.Mathlib.Numerals.{add-one}
 use native.Mathlib.Omega.{arith}
 use lib.Dec.{leb, ltb, eqb}
 use lib.ListN.{length, getD, drop, replicate, drop-of-length-le}
 use lib.Seq.{drop-cons}
-use borrow.Author.Tests.{le-leb, lt-leb, lt-ltb, le-ltb, eqb-false}
+use borrow.Author.Tests.{le-leb, lt-leb, leb-true, leb-false, lt-ltb, le-ltb, eqb-false}
 use Rattle.units.specs.Lists.{member}
 use Rattle.units.proofs.Tests.{or-left, or-right, Rising, Order, less, same, more, order}
 use Rattle.timeline.specs.Events.{further, passed, row-at}
@@ -48,6 +48,38 @@ passed-padded m [] zero = refl
 passed-padded m [] (suc n) = refl
 passed-padded m (zero ∷ es) n = refl
 passed-padded m (suc e ∷ es) n = ap (further (leb (suc e) m)) (passed-padded m es n)
+
+-- the row is one of the table's, and no lower for a later minute
+passed-length : (m : ℕ) (es : List ℕ) → passed m es ≤ length es
+unfolding passed
+passed-length m [] = omega arith
+passed-length m (zero ∷ es) = omega arith
+passed-length m (suc e ∷ es) = by (leb (suc e) m) (passed-length m es)
+  where
+    by : (t : Bool) → passed m es ≤ length es → further t (passed m es) ≤ suc (length es)
+    by true h = omega arith
+    by false h = omega arith
+
+pub row-inside : (m : ℕ) (es : List ℕ) → 0 < length es → row-at es m < length es
+unfolding row-at
+row-inside m [] h = absurd (omega arith)
+row-inside m (c ∷ es) h = omega (arith, passed-length m es)
+
+passed-later : (m k : ℕ) (es : List ℕ) → m ≤ k → passed m es ≤ passed k es
+unfolding passed
+passed-later m k [] h = omega arith
+passed-later m k (zero ∷ es) h = omega arith
+passed-later m k (suc e ∷ es) h = by (leb (suc e) m) (leb (suc e) k) refl refl (passed-later m k es h)
+  where
+    by : (s t : Bool) → leb (suc e) m ≡ s → leb (suc e) k ≡ t → passed m es ≤ passed k es → further s (passed m es) ≤ further t (passed k es)
+    by true true p q ih = omega arith
+    by true false p q ih = absurd (let a = leb-true (suc e) m p in let b = leb-false (suc e) k q in omega arith)
+    by false t p q ih = omega arith
+
+pub row-later : (m k : ℕ) (es : List ℕ) → m ≤ k → row-at es m ≤ row-at es k
+unfolding row-at
+row-later m k [] h = omega arith
+row-later m k (c ∷ es) h = passed-later m k es h
 
 pub row-at-rest : (m : ℕ) (es : List ℕ) → row-at es m ≡ passed m (drop 1 es)
 unfolding row-at passed
