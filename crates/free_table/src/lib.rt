@@ -1,8 +1,11 @@
 // The free table: what each link has free from each event on, 64 figures a row. The choice of a start and the desk call
 // this. It knows rows, links and minutes; it never sees a path or a booking.
-use timeline::{clear_from, row_at};
-use units::{Bandwidth, LinkNumber, Minute, ROW};
-
+use timeline::clear_from;
+use timeline::row_at;
+use units::Bandwidth;
+use units::LinkNumber;
+use units::Minute;
+use units::ROW;
 ghost use mathlib.Core.Path.{_≡_};
 ghost use Prim.Native.Nat.{_-_, _*_, _≤_, _<_};
 ghost use lib.ListN.{length, take};
@@ -27,7 +30,12 @@ pub extern "C" fn reset_free(free: &mut [u32], capacities: &[u32], links: usize)
 
 // The bandwidth that a link has free in a minute.
 #[no_mangle]
-pub extern "C" fn free_figure(events: &[u32], free: &[u32], link: LinkNumber, minute: Minute) -> Bandwidth
+pub extern "C" fn free_figure(
+    events: &[u32],
+    free: &[u32],
+    link: LinkNumber,
+    minute: Minute,
+) -> Bandwidth
     requires { ⌜ Sized (now events) (now free) (link .0) ⌝ }
     ensures { λ r. ⌜ r .0 ≡ kept (now (events .entry)) (now (free .entry)) (link .0) (minute .0) ⌝ }
 {
@@ -63,10 +71,17 @@ fn subtract(part: &mut [u32], rows: usize, link: LinkNumber, bandwidth: Bandwidt
 
 // Takes bandwidth from one link in minutes start to end - 1, both of which are events or not later than the clock.
 #[no_mangle]
-pub extern "C" fn take_bandwidth(events: &[u32], free: &mut [u32], start: Minute, end: Minute, link: LinkNumber, bandwidth: Bandwidth)
+pub extern "C" fn take_bandwidth(
+    events: &[u32],
+    free: &mut [u32],
+    start: Minute,
+    end: Minute,
+    link: LinkNumber,
+    bandwidth: Bandwidth,
+)
     requires { ⌜ Sized (now events) (now free) (link .0) × (start .0 ≤ end .0) ⌝ }
     ensures { λ _. ⌜ (now (free .exit) ≡ less-span (now (events .entry)) (start .0) (end .0) (link .0) (bandwidth .0) (now (free .entry)))
-      × (take (row-at (now (events .entry)) (start .0) * most-links) (now (free .exit)) ≡ take (row-at (now (events .entry)) (start .0) * most-links) (now (free .entry))) ⌝ }
+        × (take (row-at (now (events .entry)) (start .0) * most-links) (now (free .exit)) ≡ take (row-at (now (events .entry)) (start .0) * most-links) (now (free .entry))) ⌝ }
 {
     let first = row_at(events, start);
     let past = row_at(events, end);
@@ -92,7 +107,14 @@ fn enough(part: &[u32], rows: usize, link: LinkNumber, bandwidth: Bandwidth) -> 
 
 // Whether one link has the bandwidth free in every minute from start to end - 1.
 #[no_mangle]
-pub extern "C" fn has_bandwidth(events: &[u32], free: &[u32], start: Minute, end: Minute, link: LinkNumber, bandwidth: Bandwidth) -> bool
+pub extern "C" fn has_bandwidth(
+    events: &[u32],
+    free: &[u32],
+    start: Minute,
+    end: Minute,
+    link: LinkNumber,
+    bandwidth: Bandwidth,
+) -> bool
     requires { ⌜ Sized (now events) (now free) (link .0) × (start .0 < end .0) ⌝ }
     ensures { λ r. ⌜ r ≡ enough-span (now (events .entry)) (start .0) (end .0) (link .0) (bandwidth .0) (now (free .entry)) ⌝ }
 {

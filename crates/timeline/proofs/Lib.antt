@@ -3,7 +3,7 @@ pub mod Events
 pub mod Steady
 pub mod Rows
 pub mod Spans
-mod Pieces
+pub mod Pieces
 mod Counts
 mod Insertion
 pub mod Inserted
