@@ -6,4 +6,5 @@ pub mod Spans
 pub mod Pieces
 mod Counts
 mod Insertion
+pub mod Places
 pub mod Inserted

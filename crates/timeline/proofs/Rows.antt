@@ -25,6 +25,12 @@ unfolding passed
 early m zero es p h = absurd (p refl)
 early m (suc e) es p h = rw (le-leb (suc e) m h) (omega arith)
 
+-- no event is passed at or before the clock
+pub passed-early : (c m : ℕ) (es : List ℕ) → Rising c es → m ≤ c → passed m es ≡ 0
+unfolding passed
+passed-early c m [] r h = refl
+passed-early c m (e ∷ es) r h = late m e es (let k = r .0 in omega arith)
+
 -- what is passed from place i on, by what stands there
 module _ (m : ℕ) (es : List ℕ) (i : ℕ) where
   pub passed-past : length es ≤ i → passed m (drop i es) ≡ 0
@@ -50,7 +56,7 @@ passed-padded m (zero ∷ es) n = refl
 passed-padded m (suc e ∷ es) n = ap (further (leb (suc e) m)) (passed-padded m es n)
 
 -- the row is one of the table's, and no lower for a later minute
-passed-length : (m : ℕ) (es : List ℕ) → passed m es ≤ length es
+pub passed-length : (m : ℕ) (es : List ℕ) → passed m es ≤ length es
 unfolding passed
 passed-length m [] = omega arith
 passed-length m (zero ∷ es) = omega arith
