@@ -1,0 +1,6 @@
+-- What the definitions of `specs/` find and test, said of chains of links of any length.
+pub mod Chains
+pub mod Loops
+pub mod Routes
+pub mod Paths
+mod Rounds
