@@ -3,4 +3,6 @@ pub mod Chains
 pub mod Loops
 pub mod Routes
 pub mod Paths
+pub mod Answers
 mod Rounds
+mod DistanceLaws

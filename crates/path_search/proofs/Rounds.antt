@@ -1,8 +1,8 @@
 -- One round over any figures: the links below n have been used, and a link is tested on the table as it was on the figures.
-use mathlib.Core.Path.{_≡_, refl, sym, _∙_, ap, ap₂}
+use mathlib.Core.Path.{_≡_, refl, sym, _∙_, ap, ap₂, subst}
 use mathlib.Core.List.{List}
 use mathlib.Core.Logic.{_≢_}
-use mathlib.Core.Bool.{Bool, true, false, _&&_, and-eq-true-iff}
+use mathlib.Core.Bool.{Bool, true, false, _&&_}
 use Prim.Native.Nat.{ℕ, suc, _+_, _≤_, _<_}
 use native.Mathlib.Numerals.{add-one}
 use native.Mathlib.Decide.{ℕ-discrete}
@@ -10,28 +10,37 @@ use native.Mathlib.Omega.{arith}
 use lib.Dec.{eqb, ltb}
 use lib.ListN.{length, getD, set}
 use lib.Seq.{getD-set-same, getD-set-other}
-use borrow.Author.Tests.{eqb-true, eq-eqb, ne-eqb, ltb-true, lt-ltb}
+use borrow.Author.Tests.{eq-eqb, ne-eqb, lt-ltb}
 use Rattle.units.specs.Limits.{last-node}
 use Rattle.units.specs.Search.{anyBelow}
 use Rattle.units.proofs.Search.{anyBelow-some}
+use Rattle.units.proofs.Tests.{Tells, _&_, equals, less-than}
 use Rattle.path_search.specs.Paths.{Graph}
 use Rattle.path_search.specs.Rounds.{Shows, figures, nearer, spread}
 
+passes : (t : Bool) → Tells t (t ≡ true)
+passes t = ((λ e. e), λ e. e)
+
 module _ (g : Graph) (usable : ℕ → Bool) (figure : ℕ → ℕ) (near : ℕ) where
   -- link l begins at v and leads nearer
-  abbrev out : ℕ → ℕ → Bool
+  abbrev pub out : ℕ → ℕ → Bool
   out v l = eqb (g .from l) v && nearer g usable figure near l
 
   abbrev after : ℕ → ℕ → ℕ
   after n v = spread g usable figure near n v
 
+  pub nearer-tells : (l : ℕ) → Tells (nearer g usable figure near l) (((usable l ≡ true) × (figure (g .to l) ≡ near)) × (near < figure (g .from l)))
+  nearer-tells l = passes (usable l) & equals (figure (g .to l)) near & less-than near (figure (g .from l))
+
+  pub out-tells : (v l : ℕ) → Tells (out v l) ((g .from l ≡ v) × (((usable l ≡ true) × (figure (g .to l) ≡ near)) × (near < figure (g .from l))))
+  out-tells v l = equals (g .from l) v & nearer-tells l
+
   -- a node that the round has reached was beyond `near`
-  reached-beyond : (n v : ℕ) → anyBelow n (out v) ≡ true → near < figure v
+  pub reached-beyond : (n v : ℕ) → anyBelow n (out v) ≡ true → near < figure v
   reached-beyond n v h =
       let s = anyBelow-some (out v) n h in
-      let a = and-eq-true-iff (eqb (g .from (s .0)) v) (nearer g usable figure near (s .0)) .0 (s .2) in
-      let k = ltb-true near (figure (g .from (s .0))) (and-eq-true-iff (usable (s .0) && eqb (figure (g .to (s .0))) near) _ .0 (a .1) .1) in
-      rw (eqb-true (g .from (s .0)) v (a .0)) at k
+      let o = out-tells v (s .0) .0 (s .2) in
+      subst (λ w. near < figure w) (o .0) (o .1 .1)
 
   -- the round changes no test of `near`
   pub at-near-kept : (n v : ℕ) → eqb (after n v) near ≡ eqb (figure v) near

@@ -4,8 +4,8 @@ use mathlib.Core.List.{List, [], _∷_}
 use mathlib.Core.Bool.{Bool, true, false, _&&_}
 use Prim.Native.Nat.{ℕ, zero, suc, _≤_, min}
 use lib.Dec.{eqb, ltb}
-use lib.ListN.{getD}
-use Rattle.units.specs.Limits.{last-node}
+use lib.ListN.{length, getD}
+use Rattle.units.specs.Limits.{last-node, most-hops}
 use Rattle.units.specs.Search.{Found, at, nothing, firstFrom, anyBelow}
 use Rattle.path_search.specs.Paths.{Graph, onward, reaches}
 
@@ -34,6 +34,10 @@ place-of n nothing = n
 unfoldable pub distance : Graph → (ℕ → Bool) → ℕ → ℕ → ℕ → ℕ
 distance g usable target n v = figure-of (firstFrom 0 (suc n) (λ k. reaches g usable target k v))
 
+-- the distances of 0 links: the target is none away
+abbrev pub before-rounds : ℕ → ℕ → ℕ
+before-rounds target v = elim (eqb v target) [ true ↦ 0 | false ↦ far ]
+
 module _ (g : Graph) (usable : ℕ → Bool) (figure : ℕ → ℕ) where
   -- link l can be used and leads from a node beyond the figure `near` to a node of that figure
   abbrev pub nearer : ℕ → ℕ → Bool
@@ -56,3 +60,8 @@ module _ (g : Graph) (usable : ℕ → Bool) (figure : ℕ → ℕ) where
   unfoldable pub picked : ℕ → ℕ → List ℕ
   picked zero v = []
   picked (suc n) v = elim (nearer-link v n) [ at l ↦ l ∷ picked n (g .to l) | nothing ↦ [] ]
+
+  -- n links can be picked from v on, and a path has room for them
+  pub record Walkable (n v : ℕ) : Type 0 where
+    pub few : n ≤ most-hops
+    pub all : length (picked n v) ≡ n

@@ -1,0 +1,100 @@
+-- nearer_link meets its contract. No link below `link` passes the test.
+use mathlib.Core.Path.{_≡_, refl, sym, _∙_, ap, ap₂}
+use mathlib.Core.Logic.{⊎-elim}
+use Prim.Native.Nat.{ℕ, suc, _+_, _-_, _≤_, _<_, zero-le}
+use native.Mathlib.Numerals.{add-one}
+use native.Mathlib.Omega.{arith}
+use lib.Dec.{eqb}
+use Rattle.units.specs.Search.{firstFrom}
+use Rattle.units.proofs.Search.{first-here, first-after}
+use Rattle.path_search.specs.Paths.{onward}
+use Rattle.path_search.specs.Rounds.{figures, nearer-link, place-of}
+use Rattle.path_search.specs.Answer.{InRange, graph, usable}
+use borrow.Author.Needs.{needs}
+use Rattle.path_search.proofs.nearer_link.Statement.{statement}
+use Rattle.path_search.proofs.nearer_link.Tie as tie
+use Rattle.path_search.proofs.nearer_link.Reads as reads
+use Rattle.path_search.proofs.nearer_link.Lts as lts
+use Rattle.path_search.proofs.leaves.Reads as leaves-reads
+
+abbrev Inv-loop : tie.InvT-loop
+Inv-loop node near ends set table count link₀ link =
+    (link ≤ count) × (nearer-link (graph ends) (usable set) (figures table) node near ≡ firstFrom link (count - link) (onward (graph ends) (usable set) (λ w. eqb (figures table w) near) node))
+
+abbrev μ-loop : tie.MeasureT-loop
+μ-loop node near ends set table count link₀ link = count - link
+
+loop-holds : tie.Need-loop-holds Inv-loop μ-loop
+loop-holds c = ?
+
+mul-leaves : tie.Need-mul-leaves Inv-loop μ-loop
+mul-leaves c = search needs
+
+element-copy-out-leaves : tie.Need-element-copy-out-leaves Inv-loop μ-loop
+element-copy-out-leaves c = search needs
+
+element-copy-out-leaves-2 : tie.Need-element-copy-out-leaves-2 Inv-loop μ-loop
+element-copy-out-leaves-2 c = search needs
+
+leaves-requires : tie.Need-leaves-requires Inv-loop μ-loop
+leaves-requires c κs = search needs
+
+mul-to : tie.Need-mul-to Inv-loop μ-loop
+mul-to c = search needs
+
+element-copy-out-to : tie.Need-element-copy-out-to Inv-loop μ-loop
+element-copy-out-to c = search needs
+
+cast-to : tie.Need-cast-to Inv-loop μ-loop
+cast-to c = search needs
+
+mul-if2 : tie.Need-mul-if2 Inv-loop μ-loop
+mul-if2 c = ?
+
+array-read-if2 : tie.Need-array-read-if2 Inv-loop μ-loop
+array-read-if2 c = ?
+
+cast-t27 : tie.Need-cast-t27 Inv-loop μ-loop
+cast-t27 c = search needs
+
+returns : tie.Need-returns Inv-loop μ-loop
+returns c = ?
+
+add-link : tie.Need-add-link Inv-loop μ-loop
+add-link c = search needs
+
+loop-less : tie.Need-loop-less Inv-loop μ-loop
+loop-less c = omega arith
+
+loop-again : tie.Need-loop-again Inv-loop μ-loop
+loop-again c = (omega arith, ⊎-elim (λ w. ?a) (λ w. ?b) (c .if1 .came))
+
+cast-t28 : tie.Need-cast-t28 Inv-loop μ-loop
+cast-t28 c = search needs
+
+returns-2 : tie.Need-returns-2 Inv-loop μ-loop
+returns-2 c = ?
+
+pub nearer-link-spec : {M : Type 1} → statement M
+nearer-link-spec =
+    tie.close
+    (tie.spec
+    Inv-loop
+    μ-loop
+    loop-holds
+    mul-leaves
+    element-copy-out-leaves
+    element-copy-out-leaves-2
+    leaves-requires
+    mul-to
+    element-copy-out-to
+    cast-to
+    mul-if2
+    array-read-if2
+    cast-t27
+    returns
+    add-link
+    loop-less
+    loop-again
+    cast-t28
+    returns-2)
