@@ -122,8 +122,8 @@ module _ (g : Graph) (usable : ℕ → Bool) (target : ℕ) where
               elim (ℕ-discrete k n) [
                 | no q ↦ (suc k, omega arith, reaches-step g usable target k v l o r)
                 | yes q ↦ subst (λ x. (d : ℕ) × (d ≤ n) × (reached d x ≡ true)) (o .begins)
-                  (from-figure (g .from l) (figure (g .from l)) (says (g .from l) (let z = below .from-below l (o .known) in omega arith))
-                  (λ z. clash (some-anyBelow (nearer g usable figure n) (g .count) l (o .known) (nearer-tells g usable figure n l .1 ((o .usable, e ∙ q), z))) stop))
+                    (from-figure (g .from l) (figure (g .from l)) (says (g .from l) (let z = below .from-below l (o .known) in omega arith))
+                    (λ z. clash (some-anyBelow (nearer g usable figure n) (g .count) l (o .known) (nearer-tells g usable figure n l .1 ((o .usable, e ∙ q), z))) stop))
               ]
 
       -- and the distances stay what they are

@@ -4,5 +4,7 @@ pub mod Loops
 pub mod Routes
 pub mod Paths
 pub mod Answers
+pub mod Agree
 mod Rounds
 mod DistanceLaws
+mod Picks

@@ -3,6 +3,7 @@
 // bookings, and draws no tie at random.
 
 ghost use mathlib.Core.Path.{_≡_};
+ghost use mathlib.Core.List.{[]};
 ghost use mathlib.Core.Bool.{_&&_};
 ghost use Prim.Native.Nat.{_<_, min};
 ghost use lib.Dec.{eqb, ltb};
@@ -18,6 +19,9 @@ use units::PATH_LINKS;
 
 // The nodes that there may be: one more than the most links of a path.
 const NODES: usize = PATH_LINKS + 1;
+
+// The most links of a path, as a figure.
+const MOST: u32 = PATH_LINKS as u32;
 
 // The figure of a node from which no chain is known.
 const FAR: u32 = LAST_NODE + 1;
@@ -144,7 +148,13 @@ fn least_end(ends: LinkEnds, set: LinkSet, table: [u32; NODES], node: u32) -> u3
 }
 
 // The lowest usable link out of the node to a node of the figure `near`, or the count of links where there is none.
-fn nearer_link(ends: LinkEnds, set: LinkSet, table: [u32; NODES], node: u32, near: u32) -> LinkNumber
+fn nearer_link(
+    ends: LinkEnds,
+    set: LinkSet,
+    table: [u32; NODES],
+    node: u32,
+    near: u32,
+) -> LinkNumber
     requires { ⌜ InRange ends ⌝ }
     ensures { λ r. ⌜ r .0 ≡ place-of (ends .count) (nearer-link (graph ends) (usable set) (figures table) node near) ⌝ }
 {
@@ -178,9 +188,16 @@ fn walk(ends: LinkEnds, set: LinkSet, table: [u32; NODES], source: u32, count: u
         node = ends.to[link as usize];
         place += 1;
     }
+    Path { count, links }
+}
+
+// The answer where there is no path.
+fn no_path() -> Path
+    ensures { λ r. ⌜ r ≡ path-of [] ⌝ }
+{
     Path {
-        count,
-        links,
+        count: 0,
+        links: [0; PATH_LINKS],
     }
 }
 
@@ -192,9 +209,9 @@ pub extern "C" fn find_route(ends: LinkEnds, set: LinkSet, source: u32, destinat
 {
     let table = distances(ends, set, destination);
     let least = least_end(ends, set, table, source);
-    if least < LAST_NODE {
+    if least < MOST {
         walk(ends, set, table, source, least + 1)
     } else {
-        walk(ends, set, table, source, 0)
+        no_path()
     }
 }

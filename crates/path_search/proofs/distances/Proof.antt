@@ -57,13 +57,12 @@ loop-again : tie.Need-loop-again Inv-loop μ-loop
 loop-again c =
     let turn = c .before .before .before .before .before in
     let args = turn .before .before .args in
-    let after = c .before .before .before .round in
-    (
+    let after = c .before .before .before .round in (
       omega arith,
       λ v h. after .ensures .0 v h
-      ∙ spread-is (graph (args .ends)) (usable (args .set)) (args .destination) (nodes-below (args .ends) (turn .before .before .pre)) (turn .loop .near) (turn .loop .inv .0) (figures (turn .loop .table))
-      (turn .loop .inv .1) v h
-      ∙ rw (add-one (turn .loop .near)),
+          ∙ spread-is (graph (args .ends)) (usable (args .set)) (args .destination) (nodes-below (args .ends) (turn .before .before .pre)) (turn .loop .near) (turn .loop .inv .0) (figures (turn .loop .table))
+          (turn .loop .inv .1) v h
+          ∙ rw (add-one (turn .loop .near)),
     )
 
 returns-2 : tie.Need-returns-2 Inv-loop μ-loop

@@ -7,6 +7,7 @@ use native.Mathlib.Omega.{arith}
 use Rattle.path_search.specs.Rounds.{figures, least-end}
 use Rattle.path_search.specs.Answer.{InRange, graph, usable}
 use borrow.Author.Needs.{needs}
+use Rattle.path_search.proofs.Picks.{least-out, least-not}
 use Rattle.path_search.proofs.least_end.Statement.{statement}
 use Rattle.path_search.proofs.least_end.Tie as tie
 use Rattle.path_search.proofs.least_end.Reads as reads
@@ -21,7 +22,8 @@ abbrev μ-loop : tie.MeasureT-loop
 μ-loop node ends set table count least₀ link₀ least link = count - link
 
 loop-holds : tie.Need-loop-holds Inv-loop μ-loop
-loop-holds c = ?
+unfolding least-end
+loop-holds c = (zero-le, refl)
 
 mul-leaves : tie.Need-mul-leaves Inv-loop μ-loop
 mul-leaves c = search needs
@@ -45,10 +47,10 @@ cast-to : tie.Need-cast-to Inv-loop μ-loop
 cast-to c = search needs
 
 mul-lesser : tie.Need-mul-lesser Inv-loop μ-loop
-mul-lesser c = ?
+mul-lesser c = omega (arith, c .before .before .before .before .before .before .before .pre .to-node (c .before .before .before .before .before .before .loop .link) (search needs))
 
 array-read-lesser : tie.Need-array-read-lesser Inv-loop μ-loop
-array-read-lesser c = ?
+array-read-lesser c = omega (arith, c .before .before .before .before .before .before .before .pre .to-node (c .before .before .before .before .before .before .loop .link) (search needs))
 
 lesser-requires : tie.Need-lesser-requires Inv-loop μ-loop
 lesser-requires c κs = search needs
@@ -60,10 +62,26 @@ loop-less : tie.Need-loop-less Inv-loop μ-loop
 loop-less c = omega arith
 
 loop-again : tie.Need-loop-again Inv-loop μ-loop
-loop-again c = (omega arith, ⊎-elim (λ w. ?a) (λ w. ?b) (c .if1 .came))
+loop-again c =
+    let turn = c .before .before .before .before .before in
+    let args = turn .before .args in
+    let g = graph (args .t1) in
+    let u = usable (args .t2) in
+    let f = figures (args .t3) in
+    let link = turn .loop .link in
+    let next = ap (least-end g u f (args .node)) (sym (add-one link)) in
+    let leaves = sym (c .before .leaves .ensures) in (
+      omega arith,
+      ⊎-elim
+          (λ w. w .3 ∙ w .2 .ensures ∙ ap (min (f (g .to link))) (turn .loop .inv .1) ∙ sym (least-out g u f (args .node) link (leaves ∙ w .0 .taken)) ∙ next)
+          (λ w. w .1 ∙ turn .loop .inv .1 ∙ sym (least-not g u f (args .node) link (leaves ∙ w .0 .left)) ∙ next)
+          (c .if1 .came),
+    )
 
 returns : tie.Need-returns Inv-loop μ-loop
-returns c = ?
+returns c =
+    let args = c .before .before .args in
+    c .before .loop .inv .1 ∙ ap (least-end (graph (args .t1)) (usable (args .t2)) (figures (args .t3)) (args .node)) (omega arith)
 
 pub least-end-spec : {M : Type 1} → statement M
 least-end-spec =
