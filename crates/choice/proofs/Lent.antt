@@ -1,6 +1,6 @@
 -- The lent tables: what they keep changes only at the events, a span is read off the rows, and the figure function that a
 -- table was made from gives the same choice.
-use mathlib.Core.Path.{_≡_, refl, sym, _∙_, ap, ap₂}
+use mathlib.Core.Path.{_≡_, refl, sym, _∙_, ap, subst}
 use mathlib.Core.List.{List, _∷_, List·Memᴰ, List·Memᴰ·cases-cons}
 use mathlib.Core.Logic.{_⊎_, inl, inr}
 use mathlib.Core.Bool.{Bool, true, false}
@@ -137,3 +137,11 @@ module _ (c : ℕ) (ts : List ℕ) where
                   let place : at-row start + i - at-row start ≡ i = omega arith in
                   rw (sym (ap (λ j. getD (drop (at-row start * most-links) t) (j * most-links + l) 0) place) ∙ looked (at-row start + i) (omega arith) (omega arith))
                   (span-in-rows (kept event-table t l) (λ x. bandwidth ≤ x) most-events c ts (kept-changes l) start end h some minutes (at-row start + i) (omega arith) (omega arith))
+
+-- the same on a table that is known to be an event table, for a span of d minutes
+pub enough-span-carries : (c : ℕ) (ts es t : List ℕ) → es ≡ padded most-events (events c ts) → (l bandwidth start d : ℕ) → c ≤ start → 1 ≤ d
+    → enough-span es start (start + d) l bandwidth t ≡ carries (kept es t) bandwidth d start l
+enough-span-carries c ts es t shown l bandwidth start d h some =
+    let e : start + d - start ≡ d = omega arith in
+    subst (λ x. enough-span x start (start + d) l bandwidth t ≡ carries (kept x t) bandwidth d start l) (sym shown)
+    (enough-span-kept c ts t l bandwidth start (start + d) h (omega arith) ∙ ap (λ n. allFrom start n (λ k. leb bandwidth (kept (padded most-events (events c ts)) t l k))) e)

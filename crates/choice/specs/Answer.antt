@@ -14,6 +14,7 @@ use Rattle.path_search.specs.declared.LinkEnds.{LinkEnds}
 use Rattle.path_search.specs.declared.LinkSet.{LinkSet}
 use Rattle.path_search.specs.declared.Path.{Path}
 use Rattle.path_search.specs.Answer.{InRange, usable, path-of}
+use Rattle.choice.specs.declared.StartChoice.{StartChoice}
 use Rattle.choice.specs.declared.StartChoice.the-variants.{Start, Refused}
 use Rattle.choice.specs.declared.Chosen.{Chosen}
 use Rattle.choice.specs.declared.ChoiceRecord.{ChoiceRecord}
@@ -32,15 +33,16 @@ pub record Sized (es t : List ℕ) : Type 0 where
   pub events-sized : length es ≡ most-events
   pub free-sized : length t ≡ most-events * most-links
 
--- a start can be tried: links in range, the events of a clock that is not after it, and a span in range
-pub record Triable (ends : LinkEnds) (es t : List ℕ) (duration start : ℕ) : Type 0 where
+-- what may be asked: document 01's links, events whose clock is not after low, and a duration and a latest start in range
+pub record Askable (ends : LinkEnds) (es t : List ℕ) (duration low latest : ℕ) : Type 0 where
   pub in-range : InRange ends
   pub sized : Sized es t
   pub clock : ℕ
   pub times : List ℕ
   pub are-events : es ≡ padded most-events (events clock times)
-  pub not-past : clock ≤ start
+  pub not-past : clock ≤ low
   pub lasts : Within 1 longest duration
+  pub in-time : latest ≤ last-minute
 
 -- document 01's refusal number of a window with no possible start
 abbrev pub no-possible-start : ℕ
@@ -58,6 +60,9 @@ chosen (granted g) = start-with (record { 0 = g .start }) (path-of (g .path))
 chosen no-start = refusal
 
 -- document 01's number and values for each case of a choice; 0 is the number of a start
-abbrev pub values : Choice → ChoiceRecord
-values (granted g) = record { refusal = 0; start = record { 0 = g .start }; path = path-of (g .path) }
-values no-start = record { refusal = no-possible-start; start = record { 0 = 0 }; path = path-of [] }
+abbrev pub values-of : StartChoice → Path → ChoiceRecord
+values-of (Start start) path = record { refusal = 0; start = start; path = path }
+values-of (Refused number) path = record { refusal = number; start = record { 0 = 0 }; path = path }
+
+abbrev pub values : Chosen → ChoiceRecord
+values r = values-of (r .choice) (r .path)
