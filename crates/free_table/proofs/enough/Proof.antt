@@ -1,6 +1,6 @@
 -- `enough` meets its contract. The rows below `row` have the bandwidth, so the answer lies in those from it on.
 use mathlib.Core.Path.{_≡_, sym, _∙_}
-use Prim.Native.Nat.{_-_, _*_, _≤_}
+use Prim.Native.Nat.{_-_, _≤_}
 use native.Mathlib.Omega.{arith}
 use Rattle.free_table.specs.Taking.{enough-rows}
 use Rattle.free_table.proofs.Steps.{enough-from, enough-all, enough-short, enough-next, enough-done}

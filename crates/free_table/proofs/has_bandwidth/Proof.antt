@@ -1,9 +1,9 @@
 -- `has_bandwidth` meets its contract: the rows looked at are those from the row of the start to that of the last minute.
-use mathlib.Core.Path.{_≡_, ap, ap₂, _∙_}
+use mathlib.Core.Path.{ap₂, _∙_}
 use Prim.Native.Nat.{suc, _-_, _*_, _≤_, _<_}
 use native.Mathlib.Numerals.{add-one}
 use native.Mathlib.Omega.{arith}
-use lib.ListN.{length, drop}
+use lib.ListN.{drop}
 use Rattle.units.specs.Limits.{most-links, most-events}
 use Rattle.timeline.specs.Events.{row-at}
 use Rattle.timeline.proofs.Rows.{row-inside, row-later}
