@@ -45,7 +45,7 @@ sub-subtract-2 : tie.Need-sub-subtract-2
 sub-subtract-2 c = omega (arith, rows-found (c .before))
 
 subtract-requires : tie.Need-subtract-requires
-subtract-requires c κs = (rw length-rest (omega (arith, rows-found (c .before))), omega arith)
+subtract-requires c κs = record { whole = rw length-rest (omega (arith, rows-found (c .before))); column = omega arith }
 
 same-length : tie.Need-same-length
 same-length c = search needs
