@@ -1,0 +1,69 @@
+//! Nanoseconds for each record, read by the proved library and by the independent Rust reader, on the same records in one
+//! run: orders of every kind, one in eight damaged.
+
+use std::hint::black_box;
+
+use record_tests::{plain, read_link, read_order};
+use support::Random;
+use timing::compare;
+
+const RECORDS: usize = 100_000;
+
+fn order(random: &mut Random) -> [u8; 16] {
+    let (kind, number) = (random.within(1, 4) as u128, random.next() as u128 & 0x3FFF);
+    let request = (random.next() as u128) << 46 | random.next() as u128 >> 18;
+    let request = request & ((1 << 110) - 1);
+    let bits = match kind {
+        1 => 1 << 124 | number << 110 | request,
+        2 => 2 << 124 | number << 110,
+        3 => 3 << 124 | (request & 0x3FFF_FFFF) << 30,
+        _ => 4 << 124 | request,
+    };
+    let damage = if random.once_in(8) { 1 << random.below(128) } else { 0u128 };
+    (bits ^ damage).to_be_bytes()
+}
+
+fn main() {
+    let mut random = Random::new(0x5EED);
+    let orders: Vec<[u8; 16]> = (0..RECORDS).map(|_| order(&mut random)).collect();
+    let links: Vec<[u8; 8]> = (0..RECORDS).map(|_| (random.next() & !((1 << 34) - 1)).to_be_bytes()).collect();
+    compare(
+        "order record",
+        RECORDS as u32,
+        || {
+            orders.iter().for_each(|b| {
+                black_box(read_order(black_box(b)));
+            })
+        },
+        || {
+            orders.iter().for_each(|b| {
+                black_box(plain_order(black_box(b)));
+            })
+        },
+    );
+    compare(
+        "link record",
+        RECORDS as u32,
+        || {
+            links.iter().for_each(|b| {
+                black_box(read_link(black_box(b)));
+            })
+        },
+        || {
+            links.iter().for_each(|b| {
+                black_box(plain_link(black_box(b)));
+            })
+        },
+    );
+}
+
+// The independent reader is called as the library is: through a call, and not inlined here.
+#[inline(never)]
+fn plain_order(bytes: &[u8]) -> record_tests::OrderRecord {
+    plain::read_order(bytes)
+}
+
+#[inline(never)]
+fn plain_link(bytes: &[u8]) -> record_tests::LinkRecord {
+    plain::read_link(bytes)
+}

@@ -1,0 +1,22 @@
+-- The two byte strings that document 01 prints are read as it says, by computation.
+use mathlib.Core.Path.{_≡_, refl}
+use mathlib.Core.List.{[], _∷_}
+use Rattle.units.specs.Lists.{sum}
+use Rattle.record.specs.declared.Latest.the-variants.{Open}
+use Rattle.record.specs.declared.Order.the-variants.{Book}
+use Rattle.record.specs.declared.OrderRead.the-variants as orders
+use Rattle.record.specs.declared.LinkRead.the-variants as links
+use Rattle.record.specs.Layout.{big-endian, cut}
+use Rattle.record.specs.Records.{clear, order-from, order-read, link-from, link-read}
+
+-- link 0 of the session: 0 to 1 with 10 Mb/s
+pub first-link : link-read (0x00 ∷ 0x40 ∷ 0x00 ∷ 0x28 ∷ 0x00 ∷ 0x00 ∷ 0x00 ∷ 0x00 ∷ []) ≡ links.Read (record { from = 0; to = 1; capacity = record { 0 = 10 } })
+unfolding big-endian cut sum link-from link-read
+first-link = refl
+
+-- its first order: book 7 from 0 to 2, 4 Mb/s for 10 minutes, earliest 0, latest open
+pub first-order :
+    order-read (0x10 ∷ 0x01 ∷ 0xC0 ∷ 0x20 ∷ 0x00 ∷ 0x04 ∷ 0x00 ∷ 0x00 ∷ 0xA0 ∷ 0x00 ∷ 0x00 ∷ 0x00 ∷ 0x3F ∷ 0xFF ∷ 0xFF ∷ 0xFF ∷ [])
+    ≡ orders.Read (Book 7 (record { from = 0; to = 2; bandwidth = record { 0 = 4 }; duration = record { 0 = 10 }; earliest = record { 0 = 0 }; latest = Open }))
+unfolding big-endian cut sum clear order-from order-read
+first-order = refl
