@@ -2,7 +2,7 @@
 use mathlib.Core.Path.{_≡_}
 use mathlib.Core.List.{List, _++_}
 use mathlib.Core.Bool.{Bool, _&&_}
-use Prim.Native.Nat.{ℕ, zero, suc, _+_, _-_, _*_, _<_}
+use Prim.Native.Nat.{ℕ, zero, suc, _+_, _-_, _*_, _≤_, _<_}
 use lib.Dec.{leb, ltb, eqb}
 use lib.ListN.{length, getD, set, take, drop}
 use Rattle.units.specs.Limits.{most-links, most-events}
@@ -41,4 +41,15 @@ enough-span es start end l bandwidth t =
 pub record Sized (es t : List ℕ) (link : ℕ) : Type 0 where
   pub events-sized : length es ≡ most-events
   pub free-sized : length t ≡ most-events * most-links
+  pub column : link < most-links
+
+-- the free table has document 01's size, and there is a capacity for each of at most 64 links
+pub record Capacities (t capacities : List ℕ) (links : ℕ) : Type 0 where
+  pub free-sized : length t ≡ most-events * most-links
+  pub given : links ≤ length capacities
+  pub few : links ≤ most-links
+
+-- a part of a free table has so many whole rows, and the link a figure in each
+pub record WholeRows (part : List ℕ) (rows link : ℕ) : Type 0 where
+  pub whole : rows * most-links ≤ length part
   pub column : link < most-links

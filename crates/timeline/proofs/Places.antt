@@ -1,6 +1,6 @@
 -- The events of a clock and its times, by their places in the event table, and the rows that minutes have there.
 use mathlib.Core.Path.{_≡_, refl, sym, ap, _∙_, subst}
-use mathlib.Core.List.{List, [], _∷_, _++_, List·Memᴰ}
+use mathlib.Core.List.{List, [], _∷_, List·Memᴰ}
 use mathlib.Core.Bool.{Bool, true, false}
 use Prim.Native.Nat.{ℕ, zero, suc, _-_, _≤_, _<_, zero-le, suc-le-suc}
 use native.Mathlib.Nat.{le-refl}
@@ -14,7 +14,7 @@ use Rattle.units.proofs.Tests.{Rising, Side, below, above, side}
 use Rattle.units.proofs.Padded.{padded-at}
 use Rattle.timeline.specs.Events.{later, events, further, passed, row-at}
 use Rattle.timeline.proofs.Events.{later-rises}
-use Rattle.timeline.proofs.Steady.{ChangesAt, last-event, none-between, steady, last-event-le, last-event-ge, event-found}
+use Rattle.timeline.proofs.Steady.{ChangesAt, last-event, none-between, steady, last-event-le, event-found}
 use Rattle.timeline.proofs.Rows.{passed-padded, passed-early, passed-length, row-later}
 
 -- ---- a rising list
