@@ -1,6 +1,6 @@
 -- What the code may answer at each of its exits: the laws of `Starts`, on the lent tables and the code's own values.
 use mathlib.Core.Path.{_≡_, refl, sym, _∙_, ap, subst}
-use mathlib.Core.List.{List, []}
+use mathlib.Core.List.{List}
 use mathlib.Core.Bool.{Bool, true, false}
 use Prim.Native.Nat.{ℕ, _≤_, _<_}
 use native.Mathlib.Omega.{arith}
@@ -10,7 +10,7 @@ use Rattle.units.specs.Lists.{padded}
 use Rattle.units.specs.Search.{Found, at, nothing}
 use Rattle.units.proofs.Search.{IsFirst, firstFrom-found}
 use Rattle.units.proofs.Tests.{Side, below, above, side}
-use Rattle.units.proofs.Padded.{padded-at, padded-past, length-padded}
+use Rattle.units.proofs.Padded.{padded-at, padded-past}
 use Rattle.timeline.specs.Events.{events}
 use Rattle.timeline.proofs.Steady.{NoneBetween, ChangesAt}
 use Rattle.free_table.specs.Figures.{kept}
@@ -20,7 +20,7 @@ use Rattle.path_search.specs.Paths.{Graph, Route, along, none, reaches, lowest,
 use Rattle.path_search.specs.Answer.{path-of, answer}
 use Rattle.path_search.proofs.Chains.{lowest-length}
 use Rattle.choice.specs.declared.Chosen.{Chosen}
-use Rattle.choice.specs.Choice.{granted, no-start, route-at, possible, choose}
+use Rattle.choice.specs.Choice.{granted, route-at, possible, choose}
 use Rattle.choice.specs.Answer.{carries, Askable, start-with, refusal, chosen}
 use Rattle.choice.proofs.Starts.{Tried, choose-none, choose-low, choose-event, choose-none-left, choose-too-late, none-impossible}
 use Rattle.choice.proofs.Lent.{carries-back, kept-changes}

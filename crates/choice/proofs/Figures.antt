@@ -1,6 +1,6 @@
 -- A choice depends on nothing but the links and the figures of the window: on the tables of any figure function that
 -- changes only at the times it is the choice by that function. The desk's use of `choose` goes through these laws.
-use mathlib.Core.Path.{_≡_, refl, sym, _∙_, ap, ap₂}
+use mathlib.Core.Path.{_≡_, refl, _∙_, ap, ap₂}
 use mathlib.Core.List.{List}
 use mathlib.Core.Bool.{Bool, true, false}
 use Prim.Native.Nat.{ℕ, zero, suc, _+_, _-_, _≤_, _<_}

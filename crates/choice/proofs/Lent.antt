@@ -1,7 +1,7 @@
 -- The lent tables: what they keep changes only at the events, a span is read off the rows, and the figure function that a
 -- table was made from gives the same choice.
 use mathlib.Core.Path.{_≡_, refl, sym, _∙_, ap, subst}
-use mathlib.Core.List.{List, _∷_, List·Memᴰ, List·Memᴰ·cases-cons}
+use mathlib.Core.List.{List, List·Memᴰ, List·Memᴰ·cases-cons}
 use mathlib.Core.Logic.{_⊎_, inl, inr}
 use mathlib.Core.Bool.{Bool, true, false}
 use Prim.Native.Nat.{ℕ, zero, suc, _+_, _-_, _*_, _≤_, _<_, zero-le}
@@ -14,20 +14,16 @@ use lib.Seq.{getD-drop}
 use Rattle.units.specs.Limits.{most-links, most-events}
 use Rattle.units.specs.Lists.{padded}
 use Rattle.units.specs.Search.{allFrom}
-use Rattle.units.proofs.Tests.{at-most, member-tells, Side, below, above, side}
+use Rattle.units.proofs.Tests.{at-most, member-tells}
 use Rattle.units.proofs.Search.{allFrom-all, all-allFrom}
-use Rattle.timeline.specs.Events.{later, events, row-at}
+use Rattle.timeline.specs.Events.{later, events}
 use Rattle.timeline.proofs.Events.{member-later}
 use Rattle.timeline.proofs.Steady.{NoneBetween, ChangesAt, last-event, last-event-is, last-event-le}
 use Rattle.timeline.proofs.Rows.{row-later}
 use Rattle.timeline.proofs.Places.{event, row-of, row-below, row-event, row-early, event-order, event-late, begun, rows-span, span-in-rows}
 use Rattle.timeline.proofs.Spans.{span-back}
-use Rattle.free_table.specs.Figures.{table, kept}
+use Rattle.free_table.specs.Figures.{kept}
 use Rattle.free_table.specs.Taking.{enough-rows, enough-span}
-use Rattle.free_table.proofs.Figures.{kept-figure}
-use Rattle.path_search.specs.Paths.{Graph, route}
-use Rattle.path_search.proofs.Agree.{Agree, firstFrom-agree, route-agree}
-use Rattle.choice.specs.Choice.{is-along, grant-at, choice-at, route-at, possible, choose}
 use Rattle.choice.specs.Answer.{carries}
 
 -- two tests that pass together are the same

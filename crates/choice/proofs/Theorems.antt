@@ -1,14 +1,13 @@
 -- The theorems on the choice, for links whose nodes are 0 to 31 and a source that is not the destination.
-use mathlib.Core.Path.{_≡_, refl, sym, _∙_, ap, subst}
-use mathlib.Core.Logic.{_≢_, _↔_, _⊎_, inl, inr, ⊎-elim}
+use mathlib.Core.Path.{_≡_, refl, sym, ap, subst}
+use mathlib.Core.Logic.{_≢_, _↔_, _⊎_}
 use mathlib.Core.List.{List, List·Memᴰ}
 use mathlib.Core.Bool.{Bool, true}
-use Prim.Native.Nat.{ℕ, suc, _+_, _≤_, _<_}
+use Prim.Native.Nat.{ℕ, suc, _≤_, _<_}
 use native.Mathlib.Nat.{le-refl, le-antisymm}
 use native.Mathlib.Omega.{arith}
 use lib.Dec.{leb}
 use Rattle.units.specs.Limits.{last-node}
-use Rattle.units.specs.Lists.{Within, All}
 use Rattle.units.proofs.Tests.{Tells, at-most}
 use Rattle.units.proofs.Search.{allFrom-all, all-allFrom}
 use Rattle.units.proofs.Parts.{all-map}
