@@ -1,11 +1,10 @@
 -- find_route meets its contract. By the distances, the least end tells the fewest links, and the links picked are the route.
-use mathlib.Core.Path.{_≡_, refl, sym, _∙_, ap, subst}
-use Prim.Native.Nat.{ℕ, suc, _+_, _≤_, _<_}
+use mathlib.Core.Path.{_≡_, sym, _∙_, ap, subst}
+use Prim.Native.Nat.{suc, _+_}
 use native.Mathlib.Numerals.{add-one}
 use native.Mathlib.Omega.{arith}
 use lib.ListN.{length}
 use borrow.Author.Needs.{needs}
-use Rattle.units.specs.Limits.{most-hops}
 use Rattle.path_search.specs.Rounds.{figures, least-end, picked}
 use Rattle.path_search.specs.Answer.{graph, usable, path-of, answer}
 use Rattle.path_search.proofs.Answers.{nodes-below}
