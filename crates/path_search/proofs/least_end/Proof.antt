@@ -4,7 +4,8 @@ use mathlib.Core.Logic.{⊎-elim}
 use Prim.Native.Nat.{_-_, _≤_, zero-le, min}
 use native.Mathlib.Numerals.{add-one}
 use native.Mathlib.Omega.{arith}
-use Rattle.path_search.specs.Rounds.{figures, least-end}
+use Rattle.path_search.specs.Rounds.{figures}
+use Rattle.path_search.specs.Picks.{least-end}
 use Rattle.path_search.specs.Answer.{graph, usable}
 use borrow.Author.Needs.{needs}
 use Rattle.path_search.proofs.Picks.{least-out, least-not}

@@ -7,7 +7,8 @@ use lib.ListN.{length, set, replicate, length-append}
 use lib.Seq.{set-at, append-snoc}
 use Rattle.units.specs.Limits.{most-hops}
 use Rattle.units.specs.Lists.{padded}
-use Rattle.path_search.specs.Rounds.{figures, picked}
+use Rattle.path_search.specs.Rounds.{figures}
+use Rattle.path_search.specs.Picks.{picked}
 use Rattle.path_search.specs.Answer.{graph, usable}
 use Rattle.path_search.proofs.Picks.{Picked, picked-next}
 use borrow.Author.Needs.{needs}
