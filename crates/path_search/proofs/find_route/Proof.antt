@@ -1,6 +1,5 @@
 -- find_route meets its contract. By the distances, the least end tells the fewest links, and the links picked are the route.
 use mathlib.Core.Path.{sym, _∙_, ap}
-use native.Mathlib.Omega.{arith}
 use borrow.Author.Needs.{needs}
 use Rattle.path_search.specs.Rounds.{figures}
 use Rattle.path_search.specs.Answer.{graph, usable, answer}
