@@ -207,6 +207,7 @@ fn no_path() -> Path
 }
 
 // The path of fewest usable links from the source to the destination, the lowest of these; no link where there is none.
+// It is exported so that a test in Rust can call it.
 #[no_mangle]
 pub extern "C" fn find_route(ends: LinkEnds, set: LinkSet, source: u32, destination: u32) -> Path
     requires { ⌜ InRange ends ⌝ }
