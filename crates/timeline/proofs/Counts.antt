@@ -1,4 +1,4 @@
--- How many events a table holds, and what it has to do with the row that holds in a minute.
+-- How many events a table holds, place by place, as a loop over it counts them.
 use mathlib.Core.Path.{_≡_, refl, ap, _∙_}
 use mathlib.Core.List.{List, [], _∷_}
 use Prim.Native.Nat.{ℕ, zero, suc, _+_, _≤_, _<_}

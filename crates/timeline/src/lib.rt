@@ -16,18 +16,18 @@ ghost use Rattle.timeline.specs.Insertion.{count-events, only-clock, put
 pub extern "C" fn row_at(events: &[u32], minute: Minute) -> usize
     ensures { λ r. ⌜ r ≡ row-at (now (events .entry)) (minute .0) ⌝ }
 {
-    let mut row = 0;
-    while row + 1 < events.len() {
-        let next = events[row + 1];
-        if next == 0 {
-            return row;
+    let mut next = 1;
+    while next < events.len() {
+        let event = events[next];
+        if event == 0 {
+            return next - 1;
         }
-        if minute.0 < next {
-            return row;
+        if minute.0 < event {
+            return next - 1;
         }
-        row += 1;
+        next += 1;
     }
-    row
+    next - 1
 }
 
 // How many events the table holds: the clock, and those up to the first zero behind it.
