@@ -9,7 +9,8 @@ ghost use Prim.Native.Nat.{_+_, _-_, _≤_};
 ghost use lib.ListN.{length, take, replicate};
 ghost use Rattle.units.specs.Limits.{most-links, most-events};
 ghost use Rattle.timeline.specs.Events.{row-at};
-ghost use Rattle.timeline.specs.Insertion.{count-events, only-clock, put-in, with-event, with-row, with-span, with-span-rows, Room};
+ghost use Rattle.timeline.specs.EventTable.{count-events, only-clock};
+ghost use Rattle.timeline.specs.Insertion.{put-in, with-event, with-row, with-span, with-span-rows, Room};
 
 // The row that holds in a minute: that of the last event at or before it, or the first one where there is none.
 #[no_mangle]
