@@ -2,27 +2,12 @@
 use mathlib.Core.Path.{_≡_}
 use mathlib.Core.List.{List, [], _∷_, _++_}
 use mathlib.Core.Bool.{Bool, true, false}
-use Prim.Native.Nat.{ℕ, zero, suc, _+_, _-_, _*_, _≤_}
+use Prim.Native.Nat.{ℕ, suc, _+_, _-_, _*_, _≤_}
 use lib.Dec.{ltb}
 use lib.ListN.{length, getD, take, drop}
 use Rattle.units.specs.Limits.{most-links, most-events}
-use Rattle.units.specs.Lists.{padded}
 use Rattle.timeline.specs.Events.{row-at}
-
--- how many stand before the first zero
-unfoldable pub filled : List ℕ → ℕ
-filled [] = 0
-filled (zero ∷ es) = 0
-filled (suc e ∷ es) = suc (filled es)
-
--- how many events an event table holds: the clock and the later ones; document 01's unused places are zero
-unfoldable pub count-events : List ℕ → ℕ
-count-events [] = 0
-count-events (clock ∷ es) = suc (filled es)
-
--- document 01's events of a desk without bookings: the clock alone
-unfoldable pub only-clock : ℕ → List ℕ
-only-clock clock = padded most-events (clock ∷ [])
+use Rattle.timeline.specs.EventTable.{count-events}
 
 -- a piece put in at a place: what stood there and behind it moves up, and what then has no room is dropped
 abbrev pub put-in : ℕ → List ℕ → List ℕ → List ℕ
@@ -32,6 +17,7 @@ put-in at piece l = take at l ++ (piece ++ take (length l - (at + length piece))
 abbrev pub missing : List ℕ → ℕ → Bool
 missing es m = ltb (getD es (row-at es m) 0) m
 
+-- the new list where the event is missing, else the old one
 abbrev pub if-missing : Bool → List ℕ → List ℕ → List ℕ
 if-missing true new old = new
 if-missing false new old = old
