@@ -1,32 +1,23 @@
 -- A choice depends on nothing but the links and the figures of the window: on the tables of any figure function that
 -- changes only at the times it is the choice by that function. The desk's use of `choose` goes through these laws.
-use mathlib.Core.Path.{_≡_, refl, _∙_, ap, ap₂}
+use mathlib.Core.Path.{_≡_, refl, _∙_, ap}
 use mathlib.Core.List.{List}
-use mathlib.Core.Bool.{Bool, true, false}
-use Prim.Native.Nat.{ℕ, zero, suc, _+_, _-_, _≤_, _<_}
-use native.Mathlib.Nat.{le-refl}
+use mathlib.Core.Bool.{Bool}
+use Prim.Native.Nat.{ℕ, suc, _-_, _≤_, _<_}
 use native.Mathlib.Omega.{arith}
-use lib.Dec.{leb}
 use Rattle.units.specs.Limits.{most-links, most-events}
 use Rattle.units.specs.Lists.{padded}
-use Rattle.units.specs.Search.{Found, at, nothing, firstFrom, allFrom}
+use Rattle.units.specs.Search.{Found, at, nothing, firstFrom}
 use Rattle.units.proofs.Search.{IsFirst, firstFrom-found}
 use Rattle.timeline.specs.Events.{events}
 use Rattle.timeline.proofs.Steady.{ChangesAt}
 use Rattle.free_table.specs.Figures.{table, kept}
 use Rattle.free_table.proofs.Figures.{kept-figure}
+use Rattle.free_table.proofs.SpanCheck.{allFrom-agree}
 use Rattle.path_search.specs.Paths.{Graph}
 use Rattle.path_search.proofs.Agree.{Agree, firstFrom-agree, route-agree}
 use Rattle.choice.specs.Choice.{is-along, grant-at, choice-at, route-at, possible, choose}
-use Rattle.choice.specs.Answer.{carries}
-
--- tests that agree on the range pass together
-allFrom-agree : (p q : ℕ → Bool) (i n : ℕ) → ((k : ℕ) → i ≤ k → k < i + n → p k ≡ q k) → allFrom i n p ≡ allFrom i n q
-unfolding allFrom
-allFrom-agree p q i zero h = refl
-allFrom-agree p q i (suc n) h =
-    ap₂ (λ t r. elim t as (λ x. Bool) [ true ↦ r | false ↦ false ]) (h i (le-refl i) (omega arith))
-    (allFrom-agree p q (suc i) n (λ k a b. h k (omega arith) (omega arith)))
+use Rattle.choice.specs.Answer.{suffices, carries}
 
 -- links that agree, and are tested alike in each minute of the window, give the same choice
 pub choose-agree : (g h : Graph) (p q : ℕ → ℕ → Bool) (from to low latest : ℕ) → ((m : ℕ) → low ≤ m → m ≤ latest → Agree g h (p m) (q m))
@@ -53,8 +44,8 @@ module _ (links : ℕ) (f : ℕ → ℕ → ℕ) (small : links ≤ most-links) 
   -- from the clock on, a link carries a span by the tables if and only if it does by the figures
   pub carries-shown : (m l : ℕ) → c ≤ m → l < links → carries shown bandwidth duration m l ≡ carries f bandwidth duration m l
   carries-shown m l h k =
-      allFrom-agree (λ j. leb bandwidth (shown l j)) (λ j. leb bandwidth (f l j)) m duration
-      (λ j a b. ap (leb bandwidth) (kept-figure links f small c ts l j (s l k) k (omega arith)))
+      allFrom-agree (λ j. suffices bandwidth (shown l j)) (λ j. suffices bandwidth (f l j)) m _
+      (λ j a b. ap (suffices bandwidth) (kept-figure links f small c ts l j (s l k) k (omega arith)))
 
   -- the choice by the tables is the choice by the figures
   pub choose-shown : (g : Graph) → g .count ≡ links → (from to low latest : ℕ) → c ≤ low

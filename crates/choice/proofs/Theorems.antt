@@ -6,7 +6,6 @@ use mathlib.Core.Bool.{Bool, true}
 use Prim.Native.Nat.{ℕ, suc, _≤_, _<_}
 use native.Mathlib.Nat.{le-refl, le-antisymm}
 use native.Mathlib.Omega.{arith}
-use lib.Dec.{leb}
 use Rattle.units.specs.Limits.{last-node}
 use Rattle.units.proofs.Tests.{Tells, at-most}
 use Rattle.units.proofs.Search.{allFrom-all, all-allFrom}
@@ -25,7 +24,7 @@ use Rattle.path_search.proofs.Paths.{chain-leads}
 use Rattle.path_search.proofs.Answers.{nodes-below}
 use Rattle.choice.specs.declared.Chosen.{Chosen}
 use Rattle.choice.specs.Choice.{Choice, granted, choose}
-use Rattle.choice.specs.Answer.{carries, Askable, start-with, refusal, chosen}
+use Rattle.choice.specs.Answer.{suffices, carries, Askable, start-with, refusal, chosen}
 use Rattle.choice.specs.Right.{FreeThroughout, CarriedBy, Best, NonePossible, Right, best, none-possible}
 use Rattle.choice.proofs.Choice.{IsGrant, is-grant-only, ChoiceView, grants, grants-none, choose-view}
 
@@ -47,7 +46,7 @@ module _ (g : Graph) (figure : ℕ → ℕ → ℕ) (bandwidth duration source d
 
   carries-tells : (m l : ℕ) → Tells (carried m l) (FreeThroughout g figure bandwidth duration source destination m l)
   carries-tells m l =
-      let fits : ℕ → Bool = λ k. leb bandwidth (figure l k) in (
+      let fits : ℕ → Bool = λ k. suffices bandwidth (figure l k) in (
         (λ e k a b. at-most bandwidth (figure l k) .0 (allFrom-all fits m duration e k a b)),
         λ h. all-allFrom fits m duration (λ k a b. at-most bandwidth (figure l k) .1 (h k a b)),
       )
