@@ -2,18 +2,17 @@
 use mathlib.Core.Path.{_≡_}
 use mathlib.Core.List.{List, []}
 use mathlib.Core.Bool.{Bool}
-use Prim.Native.Nat.{ℕ, _*_, _≤_, _<_}
+use Prim.Native.Nat.{ℕ, _≤_}
 use lib.Dec.{leb}
-use lib.ListN.{length}
 use Rattle.units.specs.declared.Minute.{Minute}
-use Rattle.units.specs.Limits.{most-links, most-events, longest, last-minute}
+use Rattle.units.specs.Limits.{most-events, longest, last-minute}
 use Rattle.units.specs.Lists.{Within, padded}
 use Rattle.units.specs.Search.{allFrom}
 use Rattle.timeline.specs.Events.{events}
+use Rattle.free_table.specs.Looking.{TablesSized}
 use Rattle.path_search.specs.declared.LinkEnds.{LinkEnds}
-use Rattle.path_search.specs.declared.LinkSet.{LinkSet}
 use Rattle.path_search.specs.declared.Path.{Path}
-use Rattle.path_search.specs.Answer.{InRange, usable, path-of}
+use Rattle.path_search.specs.Answer.{InRange, path-of}
 use Rattle.choice.specs.declared.StartChoice.{StartChoice}
 use Rattle.choice.specs.declared.StartChoice.the-variants.{Start, Refused}
 use Rattle.choice.specs.declared.Chosen.{Chosen}
@@ -28,19 +27,10 @@ suffices bandwidth free = leb bandwidth free
 abbrev pub carries : (ℕ → ℕ → ℕ) → ℕ → ℕ → ℕ → ℕ → Bool
 carries figure bandwidth duration m l = allFrom m duration (λ k. suffices bandwidth (figure l k))
 
--- the set has each link below the count that passes the test, and no other of these
-abbrev pub Has : LinkSet → ℕ → (ℕ → Bool) → Type 0
-Has set links test = (l : ℕ) → l < links → usable set l ≡ test l
-
--- document 01's tables of events and free figures, by their sizes
-pub record Sized (es t : List ℕ) : Type 0 where
-  pub events-sized : length es ≡ most-events
-  pub free-sized : length t ≡ most-events * most-links
-
 -- what may be asked: document 01's links, events whose clock is not after low, and a duration and a latest start in range
 pub record Askable (ends : LinkEnds) (es t : List ℕ) (duration low latest : ℕ) : Type 0 where
   pub in-range : InRange ends
-  pub sized : Sized es t
+  pub sized : TablesSized es t
   pub clock : ℕ
   pub times : List ℕ
   pub are-events : es ≡ padded most-events (events clock times)
