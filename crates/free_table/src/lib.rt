@@ -177,7 +177,7 @@ pub fn lasting_links(
     ensures { λ r. ⌜ Marks r (λ l. enough-span (now (events .entry)) (start .0) (end .0) l (bandwidth .0) (now (free .entry))) ⌝ }
 {
     let first = row_at(events, start);
-    let last = row_at(events, Minute(end.0 - 1));
+    let end_row = row_at(events, Minute(end.0 - 1));
     let from = first * ROW;
-    lasting_in_rows(&free[from..], last - first + 1, bandwidth)
+    lasting_in_rows(&free[from..], end_row - first + 1, bandwidth)
 }
