@@ -27,12 +27,18 @@ same-test false true p q = q refl
 same-test false false p q = refl
 
 module _ (links : ℕ) (f : ℕ → ℕ → ℕ) (small : links ≤ most-links) (c : ℕ) (ts : List ℕ) (l bandwidth : ℕ) (column : l < links) where
+  abbrev es : List ℕ
+  es = padded most-events (events c ts)
+
+  abbrev t : List ℕ
+  t = table links f (events c ts)
+
   -- a span that starts before the clock is looked at from the clock on
   pub enough-span-early : (start end : ℕ) → start ≤ c
       → enough-span (padded most-events (events c ts)) start end l bandwidth (table links f (events c ts)) ≡ enough-span (padded most-events (events c ts)) c end l bandwidth (table links f (events c ts))
   unfolding enough-span
   enough-span-early start end h =
-      ap (λ i. enough-rows (suc (row-at (padded most-events (events c ts)) (end - 1) - i)) l bandwidth (drop (i * most-links) (table links f (events c ts))))
+      ap (λ i. enough-rows (suc (row-at es (end - 1) - i)) l bandwidth (drop (i * most-links) t))
       (row-early most-events c ts start h ∙ sym (row-early most-events c ts c (omega arith)))
 
   module _ (s : ChangesAt ts (f l)) (start end : ℕ) (h : c ≤ start) (some : start < end) where
@@ -43,12 +49,12 @@ module _ (links : ℕ) (f : ℕ → ℕ → ℕ) (small : links ≤ most-links) 
     last = row-of most-events c ts (end - 1)
 
     -- the figure that is looked at in row r
-    looked : (r : ℕ) → first ≤ r → r ≤ last → getD (drop (first * most-links) (table links f (events c ts))) ((r - first) * most-links + l) 0 ≡ f l (event c ts r)
+    looked : (r : ℕ) → first ≤ r → r ≤ last → getD (drop (first * most-links) t) ((r - first) * most-links + l) 0 ≡ f l (event c ts r)
     unfolding first last
     looked r a b =
         let at : first * most-links + ((r - first) * most-links + l) ≡ r * most-links + l = omega arith in
-        getD-drop (first * most-links) (table links f (events c ts)) ((r - first) * most-links + l) 0
-        ∙ ap (λ i. getD (table links f (events c ts)) i 0) at
+        getD-drop (first * most-links) t ((r - first) * most-links + l) 0
+        ∙ ap (λ i. getD t i 0) at
         ∙ table-figure links f small (events c ts) r l (omega (arith, row-below most-events c ts (end - 1))) column
 
     pub enough-span-table : enough-span (padded most-events (events c ts)) start end l bandwidth (table links f (events c ts)) ≡ allFrom start (end - start) (λ k. leb bandwidth (f l k))
@@ -56,7 +62,7 @@ module _ (links : ℕ) (f : ℕ → ℕ → ℕ) (small : links ≤ most-links) 
     enough-span-table = same-test _ _ there back
       where
         seen : ℕ → Bool
-        seen i = leb bandwidth (getD (drop (first * most-links) (table links f (events c ts))) (i * most-links + l) 0)
+        seen i = leb bandwidth (getD (drop (first * most-links) t) (i * most-links + l) 0)
 
         fits : ℕ → Bool
         fits k = leb bandwidth (f l k)
@@ -77,11 +83,11 @@ module _ (links : ℕ) (f : ℕ → ℕ → ℕ) (small : links ≤ most-links) 
             minutes : (k : ℕ) → start ≤ k → k < end → bandwidth ≤ f l k
             minutes k a b = at-most bandwidth (f l k) .0 (allFrom-all fits start (end - start) e k a (omega arith))
 
-            in-row : (i : ℕ) → i ≤ last - first → bandwidth ≤ getD (drop (first * most-links) (table links f (events c ts))) (i * most-links + l) 0
+            in-row : (i : ℕ) → i ≤ last - first → bandwidth ≤ getD (drop (first * most-links) t) (i * most-links + l) 0
             in-row i b =
-                let order = row-later start (end - 1) (padded most-events (events c ts)) (omega arith) in
+                let order = row-later start (end - 1) es (omega arith) in
                 let at : first + i - first ≡ i = omega arith in
-                rw (sym (ap (λ j. getD (drop (first * most-links) (table links f (events c ts))) (j * most-links + l) 0) at) ∙ looked (first + i) (omega arith) (omega arith))
+                rw (sym (ap (λ j. getD (drop (first * most-links) t) (j * most-links + l) 0) at) ∙ looked (first + i) (omega arith) (omega arith))
                 (span-in-rows (f l) (λ x. bandwidth ≤ x) most-events c ts s start end h some minutes (first + i) (omega arith) (omega arith))
 
   -- the span of d minutes from `start` on
