@@ -113,7 +113,13 @@ fn queue(ends: &LinkEnds, usable: &[bool; LINKS], destination: u32) -> Distances
 }
 
 /// The walk from the source: at each node the lowest usable link whose end is one nearer.
-fn walk(ends: &LinkEnds, usable: &[bool; LINKS], distance: &Distances, q: &Question, start: u32) -> Option<ChoiceRecord> {
+fn walk(
+    ends: &LinkEnds,
+    usable: &[bool; LINKS],
+    distance: &Distances,
+    q: &Question,
+    start: u32,
+) -> Option<ChoiceRecord> {
     if distance[q.source as usize] == FAR {
         return None;
     }
@@ -121,7 +127,9 @@ fn walk(ends: &LinkEnds, usable: &[bool; LINKS], distance: &Distances, q: &Quest
     let mut node = q.source;
     let mut count = 0;
     while node != q.destination {
-        let nearer = |&l: &usize| usable[l] && ends.from[l] == node && distance[ends.to[l] as usize] + 1 == distance[node as usize];
+        let nearer = |&l: &usize| {
+            usable[l] && ends.from[l] == node && distance[ends.to[l] as usize] + 1 == distance[node as usize]
+        };
         let link = (0..ends.count).find(nearer)?;
         links[count] = link as u32;
         count += 1;

@@ -42,13 +42,15 @@ pub record Askable (ends : LinkEnds) (es t : List ℕ) (duration low latest : �
 abbrev pub no-possible-start : ℕ
 no-possible-start = 8
 
--- a choice as it is answered: the start, with its path beside it, or the refusal number, with a path of zeros
+-- document 01's 'start with its path', as it is answered
 abbrev pub start-with : Minute → Path → Chosen
 start-with start path = record { choice = Start start; path = path }
 
+-- document 01's 'one refusal number', as it is answered: the path is zero
 abbrev pub refusal : Chosen
 refusal = record { choice = Refused no-possible-start; path = path-of [] }
 
+-- a choice as it is answered
 abbrev pub chosen : Choice → Chosen
 chosen (granted g) = start-with (record { 0 = g .start }) (path-of (g .path))
 chosen no-start = refusal
@@ -58,5 +60,6 @@ abbrev pub values-of : StartChoice → Path → ChoiceRecord
 values-of (Start start) path = record { refusal = 0; start = start; path = path }
 values-of (Refused number) path = record { refusal = number; start = record { 0 = 0 }; path = path }
 
+-- and of an answer: 'on refusal start and path are zero'
 abbrev pub values : Chosen → ChoiceRecord
 values r = values-of (r .choice) (r .path)
