@@ -1,5 +1,9 @@
 // The quantities of a reservation, each with a type of its own, the records that calls pass by value, and the limits
-// of document 01. Every crate uses them; nothing here decides anything.
+// of document 01; and zeros for what a table does not use. Every crate uses them; nothing here decides anything.
+ghost use mathlib.Core.Path.{_≡_};
+ghost use mathlib.Core.List.{_++_};
+ghost use Prim.Native.Nat.{_-_, _≤_};
+ghost use lib.ListN.{length, take, replicate};
 
 // The last node; nodes are numbered from 0.
 pub const LAST_NODE: u32 = 31;
@@ -36,6 +40,11 @@ pub const EVENTS: usize = 2 * BOOKINGS + 1;
 
 // The figures of a place of the book: number, start, duration, bandwidth, count of links, and the path.
 pub const PLACE: usize = 5 + PATH_LINKS;
+
+// The figures of the whole free table, and of the whole book.
+pub const FREE_FIGURES: usize = EVENTS * ROW;
+
+pub const BOOK_FIGURES: usize = BOOKINGS * PLACE;
 
 // A point in time, in whole minutes.
 #[repr(C)]
@@ -78,4 +87,16 @@ pub struct Head {
     pub clock: Minute,
     pub links: u32,
     pub bookings: u32,
+}
+
+// Zeros from place `from` on.
+pub fn clear_from(table: &mut [u32], from: usize)
+    requires { ⌜ from ≤ length (now table) ⌝ }
+    ensures { λ _. ⌜ now (table .exit) ≡ take from (now (table .entry)) ++ replicate (length (now (table .entry)) - from) 0 ⌝ }
+{
+    let mut i = from;
+    while i < table.len() {
+        table[i] = 0;
+        i += 1;
+    }
 }

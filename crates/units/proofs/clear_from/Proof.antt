@@ -3,9 +3,9 @@ use mathlib.Core.Path.{_≡_, ap, _∙_}
 use Prim.Native.Nat.{_-_, _≤_}
 use native.Mathlib.Omega.{arith}
 use lib.ListN.{length, set, length-set}
-use Rattle.timeline.proofs.Pieces.{cleared, cleared-none, cleared-more, cleared-all}
-use Rattle.timeline.proofs.clear_from.Statement.{statement}
-use Rattle.timeline.proofs.clear_from.Tie as tie
+use Rattle.units.proofs.Pieces.{cleared, cleared-none, cleared-more, cleared-all}
+use Rattle.units.proofs.clear_from.Statement.{statement}
+use Rattle.units.proofs.clear_from.Tie as tie
 
 abbrev Inv-loop : tie.InvT-loop
 Inv-loop table₀ from i₀ table i = (from ≤ i) × ((i ≤ length table₀) × ((length table ≡ length table₀) × (table ≡ cleared from i table₀)))
