@@ -1,0 +1,5 @@
+-- Laws of the definitions of `specs/`.
+pub mod Writing
+pub mod Decimals
+pub mod Lines
+pub mod Examples
