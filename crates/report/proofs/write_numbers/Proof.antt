@@ -58,7 +58,7 @@ same-length c = c .before .loop .inv .1
 returns : tie.Need-returns Inv-loop μ-loop
 returns c =
     let l = c .before .loop in
-    rw (take-all (l .i) (now (c .before .before .before .args .links)) (omega arith)) at (l .inv .2)
+    rw (take-all (l .i) (now (c .before .before .before .before .args .links)) (omega arith)) at (l .inv .2)
 
 pub write-numbers-spec : {M : Type 1} → statement M
 write-numbers-spec =

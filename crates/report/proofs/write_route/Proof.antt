@@ -1,48 +1,56 @@
+-- `write_route` meets its contract: the start, then the word and the link numbers behind it.
 use borrow.Author.Needs.{needs}
+use mathlib.Core.Path.{refl}
+use mathlib.Core.List.{_++_}
+use denote.Ref.{now}
+use Rattle.report.specs.Text.{ascii}
+use Rattle.report.specs.Decimal.{decimal}
+use Rattle.report.specs.Line.{numbers}
+use Rattle.report.proofs.Writing.{joined, room-first, room-second}
+use Rattle.report.proofs.Lines.{route-parts}
 use Rattle.report.proofs.write_route.Statement.{statement}
 use Rattle.report.proofs.write_route.Tie as tie
-use Rattle.report.proofs.write_route.Reads as reads
-use Rattle.report.proofs.write_route.Lts as lts
-use Rattle.report.proofs.write_bytes.Reads as write-bytes-reads
-use Rattle.report.proofs.write_field.Reads as write-field-reads
-use Rattle.report.proofs.write_numbers.Reads as write-numbers-reads
 
--- src/lib.rt:109:39
 slice-aggregate-write-field : tie.Need-slice-aggregate-write-field
 slice-aggregate-write-field c = search needs
 
--- src/lib.rt:109:9
 write-field-requires : tie.Need-write-field-requires
-write-field-requires c κs = ?
+write-field-requires c κs =
+    let s = c .before .before .before .before in
+    let links = now (s .args .links) in
+    room-first _ (ascii " start " ++ decimal (s .args .start .0)) (ascii " links" ++ numbers links) (route-parts (s .args .start) links) (s .pre)
 
--- src/lib.rt:110:41
 slice-aggregate-write-bytes : tie.Need-slice-aggregate-write-bytes
 slice-aggregate-write-bytes c = search needs
 
--- src/lib.rt:110:9
 write-bytes-requires : tie.Need-write-bytes-requires
-write-bytes-requires c κs = ?
+write-bytes-requires c κs =
+    let s = c .before .before .before .before .before .before .before .before .before in
+    let f = c .before .before .before .before .write-field in
+    let links = now (s .args .links) in
+    room-first _ (ascii " links") (numbers links) refl (room-second (ascii " links" ++ numbers links) (route-parts (s .args .start) links) (s .pre) (f .ensures) (f .kept .0))
 
--- src/lib.rt:111:5
 write-numbers-requires : tie.Need-write-numbers-requires
-write-numbers-requires c κs = ?
+write-numbers-requires c κs =
+    let s = c .before .before .before .before .before .before .before .before .before .before .before .before .before in
+    let f = c .before .before .before .before .before .before .before .before .write-field in
+    let w = c .before .before .before .write-bytes in
+    let links = now (s .args .links) in
+    room-second (numbers links) refl (room-second (ascii " links" ++ numbers links) (route-parts (s .args .start) links) (s .pre) (f .ensures) (f .kept .0)) (w .ensures) (w .kept .0)
 
--- src/lib.rt:105:1
 same-length : tie.Need-same-length
 same-length c = search needs
 
--- src/lib.rt:105:1
 returns : tie.Need-returns
-returns c = ?
+returns c =
+    let s = c .before .before .before .before .before .before .before .before .before .before .before .before .before .before .before .before in
+    let f = c .before .before .before .before .before .before .before .before .before .before .before .write-field in
+    let w = c .before .before .before .before .before .before .write-bytes in
+    let links = now (s .args .links) in
+    let parts = route-parts (s .args .start) links in
+    joined _ parts (s .pre) (f .ensures)
+    (joined _ refl (room-second (ascii " links" ++ numbers links) parts (s .pre) (f .ensures) (f .kept .0)) (w .ensures) (c .before .before .write-numbers .ensures))
 
 pub write-route-spec : {M : Type 1} → statement M
 write-route-spec =
-    tie.close
-    (tie.spec
-    slice-aggregate-write-field
-    write-field-requires
-    slice-aggregate-write-bytes
-    write-bytes-requires
-    write-numbers-requires
-    same-length
-    returns)
+    tie.close (tie.spec slice-aggregate-write-field write-field-requires slice-aggregate-write-bytes write-bytes-requires write-numbers-requires same-length returns)
