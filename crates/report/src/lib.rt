@@ -145,3 +145,23 @@ fn write_answer(out: &mut [u8], at: usize, place: u64, report: Report, links: &[
         Report::Refused(refusal) => write_placed(out, at, place, b" refused ", refusal),
     }
 }
+
+// Writes a line with the links of a path in travel order.
+fn write_report(out: &mut [u8], at: usize, place: u64, report: Report, links: &[u32]) -> usize
+    requires { ⌜ at + max-line ≤ length (now out) ⌝ }
+    requires { ⌜ length (now links) ≤ most-hops ⌝ }
+    ensures { λ r. ⌜ Wrote (line place report (now (links .entry))) (now (out .entry)) at (now (out .exit)) r ⌝ }
+{
+    let end = write_answer(out, at, place, report, links);
+    write_bytes(out, end, b"\n")
+}
+
+// Writes a line from index `at` on and answers the index behind it. The path has `count` links; a line that shows no
+// path takes any, and one of the desk itself any place.
+pub fn write_line(out: &mut [u8], at: usize, place: u64, report: Report, path: [u32; PATH_LINKS], count: usize) -> usize
+    requires { ⌜ at + max-line ≤ length (now out) ⌝ }
+    requires { ⌜ count ≤ most-hops ⌝ }
+    ensures { λ r. ⌜ Wrote (line place report (take count path)) (now (out .entry)) at (now (out .exit)) r ⌝ }
+{
+    write_report(out, at, place, report, &path[..count])
+}

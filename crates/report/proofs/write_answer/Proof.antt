@@ -1,144 +1,160 @@
+-- `write_answer` meets its contract: each arm writes the definition's case.
 use borrow.Author.Needs.{needs}
+use mathlib.Core.Path.{_≡_}
+use mathlib.Core.List.{List}
+use Prim.Native.Nat.{ℕ, _+_, _≤_}
+use denote.Ref.{now}
+use lib.ListN.{length}
+use Rattle.report.specs.declared.Report.{Report}
+use Rattle.report.specs.Line.{answer}
+use Rattle.report.specs.Written.{Wrote}
 use Rattle.report.proofs.write_answer.Statement.{statement}
 use Rattle.report.proofs.write_answer.Tie as tie
-use Rattle.report.proofs.write_answer.Reads as reads
-use Rattle.report.proofs.write_answer.Lts as lts
-use Rattle.report.proofs.write_booking.Reads as write-booking-reads
-use Rattle.report.proofs.write_field.Reads as write-field-reads
-use Rattle.report.proofs.write_offer.Reads as write-offer-reads
-use Rattle.report.proofs.write_placed.Reads as write-placed-reads
 
--- src/lib.rt:139:27
+-- the report is one of its cases: what is asked and what is shown of the one, of the other
+module _ (place : ℕ) (links : List ℕ) {report case : Report} (e : report ≡ case) where
+  room-case : (at : ℕ) {room : ℕ} → at + length (answer place report links) ≤ room → at + length (answer place case links) ≤ room
+  room-case at h = rw e at h
+
+  wrote-case : {out after : List ℕ} {at next : ℕ} → Wrote (answer place case links) out at after next → Wrote (answer place report links) out at after next
+  wrote-case w = rw e w
+
 enum-known-report : tie.Need-enum-known-report
 enum-known-report c = search needs
 
--- src/lib.rt:139:58
 slice-aggregate-write-field : tie.Need-slice-aggregate-write-field
 slice-aggregate-write-field c = search needs
 
--- src/lib.rt:139:37
 write-field-requires : tie.Need-write-field-requires
-write-field-requires c κs = ?
+unfolding answer
+write-field-requires c κs =
+    let s = c .before .before .before .before .before .before .before in
+    room-case (s .args .place) (now (s .args .links)) (c .before .before .before .report .given .1) _ (s .pre)
 
--- src/lib.rt:140:29
 enum-known-report-2 : tie.Need-enum-known-report-2
 enum-known-report-2 c = search needs
 
--- src/lib.rt:140:62
 slice-aggregate-write-field-2 : tie.Need-slice-aggregate-write-field-2
 slice-aggregate-write-field-2 c = search needs
 
--- src/lib.rt:140:41
 write-field-requires-2 : tie.Need-write-field-requires-2
-write-field-requires-2 c κs = ?
+unfolding answer
+write-field-requires-2 c κs =
+    let s = c .before .before .before .before .before .before .before in
+    room-case (s .args .place) (now (s .args .links)) (c .before .before .before .report2 .given .1) _ (s .pre)
 
--- src/lib.rt:141:24
 enum-known-report-3 : tie.Need-enum-known-report-3
 enum-known-report-3 c = search needs
 
--- src/lib.rt:141:42
 write-booking-requires : tie.Need-write-booking-requires
-write-booking-requires c κs = ?
+write-booking-requires c κs =
+    let s = c .before .before .before .before .before .before in
+    room-case (s .args .place) (now (s .args .links)) (c .before .before .report3 .given .1) _ (s .pre)
 
--- src/lib.rt:142:25
 enum-known-report-4 : tie.Need-enum-known-report-4
 enum-known-report-4 c = search needs
 
--- src/lib.rt:142:35
 write-offer-requires : tie.Need-write-offer-requires
-write-offer-requires c κs = ?
+write-offer-requires c κs =
+    let s = c .before .before .before .before .before .before in
+    room-case (s .args .place) (now (s .args .links)) (c .before .before .report4 .given .1) _ (s .pre)
 
--- src/lib.rt:143:27
 enum-known-report-5 : tie.Need-enum-known-report-5
 enum-known-report-5 c = search needs
 
--- src/lib.rt:143:67
 slice-aggregate-write-placed : tie.Need-slice-aggregate-write-placed
 slice-aggregate-write-placed c = search needs
 
--- src/lib.rt:143:38
 write-placed-requires : tie.Need-write-placed-requires
-write-placed-requires c κs = ?
+unfolding answer
+write-placed-requires c κs =
+    let s = c .before .before .before .before .before .before .before in
+    room-case (s .args .place) (now (s .args .links)) (c .before .before .before .report5 .given .1) _ (s .pre)
 
--- src/lib.rt:144:23
 enum-known-report-6 : tie.Need-enum-known-report-6
 enum-known-report-6 c = search needs
 
--- src/lib.rt:144:63
 slice-aggregate-write-placed-2 : tie.Need-slice-aggregate-write-placed-2
 slice-aggregate-write-placed-2 c = search needs
 
--- src/lib.rt:144:34
 write-placed-requires-2 : tie.Need-write-placed-requires-2
-write-placed-requires-2 c κs = ?
+unfolding answer
+write-placed-requires-2 c κs =
+    let s = c .before .before .before .before .before .before .before in
+    room-case (s .args .place) (now (s .args .links)) (c .before .before .before .report6 .given .1) _ (s .pre)
 
--- src/lib.rt:145:25
 enum-known-report-7 : tie.Need-enum-known-report-7
 enum-known-report-7 c = search needs
 
--- src/lib.rt:145:66
 slice-aggregate-write-placed-3 : tie.Need-slice-aggregate-write-placed-3
 slice-aggregate-write-placed-3 c = search needs
 
--- src/lib.rt:145:37
 write-placed-requires-3 : tie.Need-write-placed-requires-3
-write-placed-requires-3 c κs = ?
+unfolding answer
+write-placed-requires-3 c κs =
+    let s = c .before .before .before .before .before .before .before in
+    room-case (s .args .place) (now (s .args .links)) (c .before .before .before .report7 .given .1) _ (s .pre)
 
--- src/lib.rt:134:1
 same-length : tie.Need-same-length
 same-length c = search needs
 
--- src/lib.rt:134:1
 returns : tie.Need-returns
-returns c = ?
+unfolding answer
+returns c =
+    let s = c .before .before .before .before .before .before .before .before .before .before in
+    wrote-case (s .args .place) (now (s .args .links)) (c .before .before .before .before .before .before .report .given .1) (c .before .before .write-field .ensures)
 
--- src/lib.rt:134:1
 same-length-2 : tie.Need-same-length-2
 same-length-2 c = search needs
 
--- src/lib.rt:134:1
 returns-2 : tie.Need-returns-2
-returns-2 c = ?
+unfolding answer
+returns-2 c =
+    let s = c .before .before .before .before .before .before .before .before .before .before in
+    wrote-case (s .args .place) (now (s .args .links)) (c .before .before .before .before .before .before .report2 .given .1) (c .before .before .write-field2 .ensures)
 
--- src/lib.rt:134:1
 same-length-3 : tie.Need-same-length-3
 same-length-3 c = search needs
 
--- src/lib.rt:134:1
 returns-3 : tie.Need-returns-3
-returns-3 c = ?
+returns-3 c =
+    let s = c .before .before .before .before .before .before .before .before .before in
+    wrote-case (s .args .place) (now (s .args .links)) (c .before .before .before .before .before .report3 .given .1) (c .before .before .write-booking .ensures)
 
--- src/lib.rt:134:1
 same-length-4 : tie.Need-same-length-4
 same-length-4 c = search needs
 
--- src/lib.rt:134:1
 returns-4 : tie.Need-returns-4
-returns-4 c = ?
+returns-4 c =
+    let s = c .before .before .before .before .before .before .before .before .before in
+    wrote-case (s .args .place) (now (s .args .links)) (c .before .before .before .before .before .report4 .given .1) (c .before .before .write-offer .ensures)
 
--- src/lib.rt:134:1
 same-length-5 : tie.Need-same-length-5
 same-length-5 c = search needs
 
--- src/lib.rt:134:1
 returns-5 : tie.Need-returns-5
-returns-5 c = ?
+unfolding answer
+returns-5 c =
+    let s = c .before .before .before .before .before .before .before .before .before .before in
+    wrote-case (s .args .place) (now (s .args .links)) (c .before .before .before .before .before .before .report5 .given .1) (c .before .before .write-placed .ensures)
 
--- src/lib.rt:134:1
 same-length-6 : tie.Need-same-length-6
 same-length-6 c = search needs
 
--- src/lib.rt:134:1
 returns-6 : tie.Need-returns-6
-returns-6 c = ?
+unfolding answer
+returns-6 c =
+    let s = c .before .before .before .before .before .before .before .before .before .before in
+    wrote-case (s .args .place) (now (s .args .links)) (c .before .before .before .before .before .before .report6 .given .1) (c .before .before .write-placed2 .ensures)
 
--- src/lib.rt:134:1
 same-length-7 : tie.Need-same-length-7
 same-length-7 c = search needs
 
--- src/lib.rt:134:1
 returns-7 : tie.Need-returns-7
-returns-7 c = ?
+unfolding answer
+returns-7 c =
+    let s = c .before .before .before .before .before .before .before .before .before .before in
+    wrote-case (s .args .place) (now (s .args .links)) (c .before .before .before .before .before .before .report7 .given .1) (c .before .before .write-placed3 .ensures)
 
 pub write-answer-spec : {M : Type 1} → statement M
 write-answer-spec =
