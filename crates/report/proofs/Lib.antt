@@ -2,4 +2,5 @@
 pub mod Writing
 pub mod Decimals
 pub mod Lines
+pub mod Figures
 pub mod Examples

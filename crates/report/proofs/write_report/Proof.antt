@@ -1,37 +1,46 @@
+-- `write_report` meets its contract: the answer and the line's end, for which there is room.
 use borrow.Author.Needs.{needs}
+use mathlib.Core.Path.{refl}
+use Prim.Native.Nat.{_+_, _≤_}
+use native.Mathlib.Omega.{arith}
+use denote.Ref.{now}
+use lib.ListN.{length}
+use Rattle.report.specs.Text.{ascii}
+use Rattle.report.specs.Line.{answer, line}
+use Rattle.report.proofs.Writing.{joined, room-first, room-second}
+use Rattle.report.proofs.Figures.{figures, line-fits}
 use Rattle.report.proofs.write_report.Statement.{statement}
 use Rattle.report.proofs.write_report.Tie as tie
-use Rattle.report.proofs.write_report.Reads as reads
-use Rattle.report.proofs.write_report.Lts as lts
-use Rattle.report.proofs.write_answer.Reads as write-answer-reads
-use Rattle.report.proofs.write_bytes.Reads as write-bytes-reads
 
--- src/lib.rt:155:9
+-- there is room for the whole line
+room : (k : tie.After-shared-slice-known) → let a = k .before .before .args in a .at + length (line (a .place) (a .report) (now (a .links))) ≤ length (now (a .out))
+room k =
+    let s = k .before .before in
+    let links = now (s .args .links) in
+    let fit = line-fits (s .args .place) links (s .fits .place .fits) (λ i. omega (arith, k .shared-slice-known .given i)) (s .pre .1) (s .args .report) (figures (s .args .report) _ (s .good .1 .1 .1 .0)) in
+    omega (arith, fit, s .pre .0)
+
 write-answer-requires : tie.Need-write-answer-requires
-write-answer-requires c κs = ?
+unfolding line
+write-answer-requires c κs =
+    let a = c .before .before .before .args in
+    room-first _ (answer (a .place) (a .report) (now (a .links))) (ascii "\n") refl (room (c .before))
 
--- src/lib.rt:156:27
 slice-aggregate-write-bytes : tie.Need-slice-aggregate-write-bytes
 slice-aggregate-write-bytes c = search needs
 
--- src/lib.rt:156:5
 write-bytes-requires : tie.Need-write-bytes-requires
-write-bytes-requires c κs = ?
+unfolding line
+write-bytes-requires c κs =
+    let w = c .before .before .before .before .write-answer in
+    room-second (ascii "\n") refl (room (c .before .before .before .before .before .before )) (w .ensures) (w .kept .0)
 
--- src/lib.rt:150:1
 same-length : tie.Need-same-length
 same-length c = search needs
 
--- src/lib.rt:150:1
 returns : tie.Need-returns
-returns c = ?
+unfolding line
+returns c = joined _ refl (room (c .before .before .before .before .before .before .before .before .before )) (c .before .before .before .before .before .before .before .write-answer .ensures) (c .before .before .write-bytes .ensures)
 
 pub write-report-spec : {M : Type 1} → statement M
-write-report-spec =
-    tie.close
-    (tie.spec
-    write-answer-requires
-    slice-aggregate-write-bytes
-    write-bytes-requires
-    same-length
-    returns)
+write-report-spec = tie.close (tie.spec write-answer-requires slice-aggregate-write-bytes write-bytes-requires same-length returns)
