@@ -3,17 +3,31 @@
 // answer.
 use units::Minute;
 use units::PATH_LINKS;
-ghost use mathlib.Core.List.{_++_};
+ghost use mathlib.Core.Path.{_≡_};
+ghost use mathlib.Core.List.{_∷_, [], _++_};
 ghost use Prim.Native.Nat.{_+_, _<_, _≤_};
 ghost use lib.ListN.{length, take};
 ghost use Rattle.units.specs.Limits.{most-hops};
 ghost use Rattle.report.specs.Decimal.{digit, decimal};
 ghost use Rattle.report.specs.Line.{numbers, route, answer, line, max-line};
+ghost use Rattle.report.specs.Kinds.{report-of};
 ghost use Rattle.report.specs.Written.{Wrote};
-ghost use mathlib.Core.List.{_∷_, []};
 
 // The bytes of the longest line: a place of 20 digits, two figures and 31 links of 10, and the words of a booking.
 pub const MAX_LINE: usize = 20 + 10 + 10 + PATH_LINKS * 11 + 22;
+
+// The kinds of a line for a program in another language; any other number is a refused order.
+const DESK_LINKS: u32 = 0;
+
+const DESK_REFUSED: u32 = 1;
+
+const BOOKED: u32 = 2;
+
+const OFFERED: u32 = 3;
+
+const CANCELLED: u32 = 4;
+
+const CLOCK: u32 = 5;
 
 // What a line says. The order's place and the path stand beside it.
 pub enum Report {
@@ -122,7 +136,14 @@ fn write_offer(out: &mut [u8], at: usize, place: u64, start: Minute, links: &[u3
 }
 
 // Writes a booking: the order's place, the word with the booking's number, and the route.
-fn write_booking(out: &mut [u8], at: usize, place: u64, number: u32, start: Minute, links: &[u32]) -> usize
+fn write_booking(
+    out: &mut [u8],
+    at: usize,
+    place: u64,
+    number: u32,
+    start: Minute,
+    links: &[u32],
+) -> usize
     requires { ⌜ at + length (answer place (Report.Booked number start) (now links)) ≤ length (now out) ⌝ }
     ensures { λ r. ⌜ Wrote (answer place (Report.Booked number start) (now (links .entry))) (now (out .entry)) at (now (out .exit)) r ⌝ }
 {
@@ -158,10 +179,51 @@ fn write_report(out: &mut [u8], at: usize, place: u64, report: Report, links: &[
 
 // Writes a line from index `at` on and answers the index behind it. The path has `count` links; a line that shows no
 // path takes any, and one of the desk itself any place.
-pub fn write_line(out: &mut [u8], at: usize, place: u64, report: Report, path: [u32; PATH_LINKS], count: usize) -> usize
+pub fn write_line(
+    out: &mut [u8],
+    at: usize,
+    place: u64,
+    report: Report,
+    path: [u32; PATH_LINKS],
+    count: usize,
+) -> usize
     requires { ⌜ at + max-line ≤ length (now out) ⌝ }
     requires { ⌜ count ≤ most-hops ⌝ }
     ensures { λ r. ⌜ Wrote (line place report (take count path)) (now (out .entry)) at (now (out .exit)) r ⌝ }
 {
     write_report(out, at, place, report, &path[..count])
+}
+
+// The report of a kind with its figure and its minute; the figure is a count, a booking number or a refusal number.
+fn report_of(kind: u32, figure: u32, minute: Minute) -> Report
+    ensures { λ r. ⌜ r ≡ report-of kind figure minute ⌝ }
+{
+    match kind {
+        DESK_LINKS => Report::DeskLinks(figure),
+        DESK_REFUSED => Report::DeskRefused(figure),
+        BOOKED => Report::Booked(figure, minute),
+        OFFERED => Report::Offered(minute),
+        CANCELLED => Report::Cancelled(figure),
+        CLOCK => Report::Clock(minute),
+        _ => Report::Refused(figure),
+    }
+}
+
+// Writes a line as `write_line` does, for a program in another language: the report by its kind, and the path as its
+// links alone.
+#[no_mangle]
+pub extern "C" fn gcr_write_line(
+    out: &mut [u8],
+    at: usize,
+    place: u64,
+    kind: u32,
+    figure: u32,
+    minute: Minute,
+    links: &[u32],
+) -> usize
+    requires { ⌜ at + max-line ≤ length (now out) ⌝ }
+    requires { ⌜ length (now links) ≤ most-hops ⌝ }
+    ensures { λ r. ⌜ Wrote (line place (report-of kind figure minute) (now (links .entry))) (now (out .entry)) at (now (out .exit)) r ⌝ }
+{
+    write_report(out, at, place, report_of(kind, figure, minute), links)
 }

@@ -33,14 +33,14 @@ write-bytes-requires : tie.Need-write-bytes-requires
 unfolding line
 write-bytes-requires c κs =
     let w = c .before .before .before .before .write-answer in
-    room-second (ascii "\n") refl (room (c .before .before .before .before .before .before )) (w .ensures) (w .kept .0)
+    room-second (ascii "\n") refl (room (c .before .before .before .before .before .before)) (w .ensures) (w .kept .0)
 
 same-length : tie.Need-same-length
 same-length c = search needs
 
 returns : tie.Need-returns
 unfolding line
-returns c = joined _ refl (room (c .before .before .before .before .before .before .before .before .before )) (c .before .before .before .before .before .before .before .write-answer .ensures) (c .before .before .write-bytes .ensures)
+returns c = joined _ refl (room (c .before .before .before .before .before .before .before .before .before)) (c .before .before .before .before .before .before .before .write-answer .ensures) (c .before .before .write-bytes .ensures)
 
 pub write-report-spec : {M : Type 1} → statement M
 write-report-spec = tie.close (tie.spec write-answer-requires slice-aggregate-write-bytes write-bytes-requires same-length returns)
