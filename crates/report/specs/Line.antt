@@ -1,6 +1,8 @@
 -- Document 01's output: the bytes of the line that answers an order, and of the desk's own first line.
 use mathlib.Core.List.{List, [], _∷_, _++_}
+use mathlib.Core.Bool.{Bool, true, false, _&&_}
 use Prim.Native.Nat.{ℕ, _+_, _*_}
+use lib.Dec.{leb}
 use Rattle.units.specs.Limits.{most-hops}
 use Rattle.units.specs.declared.Minute.{Minute}
 use Rattle.report.specs.declared.Report.{Report}
@@ -34,3 +36,12 @@ line place report links = answer place report links ++ ascii "\n"
 -- room for any line: a place of 20 digits, two figures and 31 links of 10, and the words of a booking
 abbrev pub max-line : ℕ
 max-line = 20 + 10 + 10 + most-hops * 11 + 22
+
+-- whether a buffer of this size has room for any line from index `at` on, and a path is no longer than a path can be
+abbrev pub has-room : ℕ → ℕ → ℕ → Bool
+has-room size at links = leb (at + max-line) size && leb links most-hops
+
+-- the bytes where there is room, else none
+abbrev pub if-room : Bool → List ℕ → List ℕ
+if-room true bytes = bytes
+if-room false bytes = []

@@ -9,7 +9,7 @@ ghost use Prim.Native.Nat.{_+_, _<_, _≤_};
 ghost use lib.ListN.{length, take};
 ghost use Rattle.units.specs.Limits.{most-hops};
 ghost use Rattle.report.specs.Decimal.{digit, decimal};
-ghost use Rattle.report.specs.Line.{numbers, route, answer, line, max-line};
+ghost use Rattle.report.specs.Line.{numbers, route, answer, line, max-line, has-room, if-room};
 ghost use Rattle.report.specs.Kinds.{report-of};
 ghost use Rattle.report.specs.Written.{Wrote};
 
@@ -107,10 +107,10 @@ fn write_numbers(out: &mut [u8], at: usize, links: &[u32]) -> usize
     ensures { λ r. ⌜ Wrote (numbers (now (links .entry))) (now (out .entry)) at (now (out .exit)) r ⌝ }
 {
     let mut next = at;
-    let mut i: usize = 0;
-    while i < links.len() {
-        next = write_link(out, next, links[i]);
-        i += 1;
+    let mut hop: usize = 0;
+    while hop < links.len() {
+        next = write_link(out, next, links[hop]);
+        hop += 1;
     }
     next
 }
@@ -172,26 +172,29 @@ fn write_report(out: &mut [u8], at: usize, place: u64, report: Report, links: &[
     requires { ⌜ at + max-line ≤ length (now out) ⌝ }
     requires { ⌜ length (now links) ≤ most-hops ⌝ }
     ensures { λ r. ⌜ Wrote (line place report (now (links .entry))) (now (out .entry)) at (now (out .exit)) r ⌝ }
+    ensures { λ r. ⌜ r ≤ at + max-line ⌝ }
 {
     let end = write_answer(out, at, place, report, links);
     write_bytes(out, end, b"\n")
 }
 
-// Writes a line from index `at` on and answers the index behind it. The path has `count` links; a line that shows no
-// path takes any, and one of the desk itself any place.
+// Writes a line from index `at` on and answers the index behind it. The path is its first `count` links; a line that
+// shows no path looks at none, and one of the desk itself at no place.
 pub fn write_line(
     out: &mut [u8],
     at: usize,
     place: u64,
     report: Report,
     path: [u32; PATH_LINKS],
-    count: usize,
+    count: u32,
 ) -> usize
     requires { ⌜ at + max-line ≤ length (now out) ⌝ }
     requires { ⌜ count ≤ most-hops ⌝ }
     ensures { λ r. ⌜ Wrote (line place report (take count path)) (now (out .entry)) at (now (out .exit)) r ⌝ }
+    ensures { λ r. ⌜ r ≤ at + max-line ⌝ }
 {
-    write_report(out, at, place, report, &path[..count])
+    let links = count as usize;
+    write_report(out, at, place, report, &path[..links])
 }
 
 // The report of a kind with its figure and its minute; the figure is a count, a booking number or a refusal number.
@@ -209,8 +212,21 @@ fn report_of(kind: u32, figure: u32, minute: Minute) -> Report
     }
 }
 
+// Whether a buffer of `size` bytes has room for any line from index `at` on, and a path this many links.
+fn has_room(size: usize, at: usize, links: usize) -> bool
+    ensures { λ r. ⌜ r ≡ has-room size at links ⌝ }
+{
+    if size < MAX_LINE {
+        return false;
+    }
+    if size - MAX_LINE < at {
+        return false;
+    }
+    links <= PATH_LINKS
+}
+
 // Writes a line as `write_line` does, for a program in another language: the report by its kind, and the path as its
-// links alone.
+// links alone. Where there is no room for the longest line or the path is too long it writes nothing and answers `at`.
 #[no_mangle]
 pub extern "C" fn gcr_write_line(
     out: &mut [u8],
@@ -221,9 +237,10 @@ pub extern "C" fn gcr_write_line(
     minute: Minute,
     links: &[u32],
 ) -> usize
-    requires { ⌜ at + max-line ≤ length (now out) ⌝ }
-    requires { ⌜ length (now links) ≤ most-hops ⌝ }
-    ensures { λ r. ⌜ Wrote (line place (report-of kind figure minute) (now (links .entry))) (now (out .entry)) at (now (out .exit)) r ⌝ }
+    ensures { λ r. ⌜ Wrote (if-room (has-room (length (now (out .entry))) at (length (now (links .entry)))) (line place (report-of kind figure minute) (now (links .entry)))) (now (out .entry)) at (now (out .exit)) r ⌝ }
 {
-    write_report(out, at, place, report_of(kind, figure, minute), links)
+    if has_room(out.len(), at, links.len()) {
+        return write_report(out, at, place, report_of(kind, figure, minute), links);
+    }
+    at
 }

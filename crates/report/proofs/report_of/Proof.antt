@@ -1,7 +1,10 @@
 -- `report_of` meets its contract: each arm is the definition's case.
-use Prim.Native.Nat.{_≤_}
+use mathlib.Core.Path.{_≡_}
+use Prim.Native.Nat.{ℕ, _≤_}
 use native.Mathlib.Omega.{arith}
 use lib.ListN.{List·getD-eq-default}
+use Rattle.units.specs.declared.Minute.{Minute}
+use Rattle.report.specs.declared.Report.the-variants.{Refused}
 use Rattle.report.specs.Kinds.{report-of}
 use Rattle.report.proofs.report_of.Statement.{statement}
 use Rattle.report.proofs.report_of.Tie as tie
@@ -30,12 +33,16 @@ returns-6 : tie.Need-returns-6
 unfolding report-of
 returns-6 c = rw (c .match .keys6)
 
-returns-7 : tie.Need-returns-7
+-- a kind past the list
+higher : (kind figure : ℕ) (minute : Minute) → 6 ≤ kind → Refused figure ≡ report-of kind figure minute
 unfolding report-of
+higher kind figure minute high = rw List·getD-eq-default
+
+returns-7 : tie.Need-returns-7
 returns-7 c =
     let r = c .match .rest in
-    let high : 6 ≤ c .before .args .kind = omega (arith, r .0 .0 .0 .0 .0 .1, r .0 .0 .0 .0 .1, r .0 .0 .0 .1, r .0 .0 .1, r .0 .1, r .1) in
-    rw List·getD-eq-default
+    let a = c .before .args in
+    higher (a .kind) (a .figure) (a .minute) (omega (arith, r .0 .0 .0 .0 .0 .1, r .0 .0 .0 .0 .1, r .0 .0 .0 .1, r .0 .0 .1, r .0 .1, r .1))
 
 pub report-of-spec : {M : Type 1} → statement M
 report-of-spec = tie.close (tie.spec returns returns-2 returns-3 returns-4 returns-5 returns-6 returns-7)

@@ -1,4 +1,4 @@
--- `write_numbers` meets its contract: after i turns the first i link numbers are written.
+-- `write_numbers` meets its contract: after so many turns as many link numbers are written.
 use mathlib.Core.Path.{_≡_, refl, _∙_}
 use mathlib.Core.List.{[], _∷_}
 use Prim.Native.Nat.{_+_, _-_, _≤_, _<_}
@@ -14,10 +14,10 @@ use Rattle.report.proofs.write_numbers.Statement.{statement}
 use Rattle.report.proofs.write_numbers.Tie as tie
 
 abbrev Inv-loop : tie.InvT-loop
-Inv-loop out₀ at links next₀ i₀ out next i = (i ≤ length links) × (length out ≡ length out₀) × Wrote (numbers (take i links)) out₀ at out next
+Inv-loop out₀ at links next₀ hop₀ out next hop = (hop ≤ length links) × (length out ≡ length out₀) × Wrote (numbers (take hop links)) out₀ at out next
 
 abbrev μ-loop : tie.MeasureT-loop
-μ-loop out₀ at links next₀ i₀ out next i = length links - i
+μ-loop out₀ at links next₀ hop₀ out next hop = length links - hop
 
 loop-holds : tie.Need-loop-holds Inv-loop μ-loop
 unfolding numbers
@@ -34,11 +34,11 @@ write-link-requires c κs =
     let s = c .before .before .before .before .before .before in
     let l = c .before .before .before .loop in
     let links = now (s .args .links) in
-    let turn : l .i < length links = omega arith in
-    room-second (numbers (getD links (l .i) 0 ∷ [])) (one-number-more links (l .i) turn) (omega (arith, numbers-part links (l .i + 1), s .pre)) (l .inv .2) (l .inv .1)
+    let turn : l .hop < length links = omega arith in
+    room-second (numbers (getD links (l .hop) 0 ∷ [])) (one-number-more links (l .hop) turn) (omega (arith, numbers-part links (l .hop + 1), s .pre)) (l .inv .2) (l .inv .1)
 
-add-i : tie.Need-add-i Inv-loop μ-loop
-add-i c = omega arith
+add-hop : tie.Need-add-hop Inv-loop μ-loop
+add-hop c = omega arith
 
 loop-less : tie.Need-loop-less Inv-loop μ-loop
 loop-less c = omega arith
@@ -49,8 +49,8 @@ loop-again c =
     let l = c .before .before .before .before .before .before .loop in
     let w = c .before .before .write-link in
     let links = now (s .args .links) in
-    let turn : l .i < length links = omega arith in
-    (omega arith, w .kept .0 ∙ l .inv .1, joined _ (one-number-more links (l .i) turn) (omega (arith, numbers-part links (l .i + 1), s .pre)) (l .inv .2) (w .ensures))
+    let turn : l .hop < length links = omega arith in
+    (omega arith, w .kept .0 ∙ l .inv .1, joined _ (one-number-more links (l .hop) turn) (omega (arith, numbers-part links (l .hop + 1), s .pre)) (l .inv .2) (w .ensures))
 
 same-length : tie.Need-same-length Inv-loop μ-loop
 same-length c = c .before .loop .inv .1
@@ -58,8 +58,8 @@ same-length c = c .before .loop .inv .1
 returns : tie.Need-returns Inv-loop μ-loop
 returns c =
     let l = c .before .loop in
-    rw (take-all (l .i) (now (c .before .before .before .before .args .links)) (omega arith)) at (l .inv .2)
+    rw (take-all (l .hop) (now (c .before .before .before .before .args .links)) (omega arith)) at (l .inv .2)
 
 pub write-numbers-spec : {M : Type 1} → statement M
 write-numbers-spec =
-    tie.close (tie.spec Inv-loop μ-loop loop-holds mul-write-link shared-slice-read-write-link write-link-requires add-i loop-less loop-again same-length returns)
+    tie.close (tie.spec Inv-loop μ-loop loop-holds mul-write-link shared-slice-read-write-link write-link-requires add-hop loop-less loop-again same-length returns)
