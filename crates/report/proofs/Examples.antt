@@ -1,7 +1,7 @@
 -- The lines of document 01's session are the bytes that it prints, and the other lines that a desk can write, by computation.
 use mathlib.Core.Path.{_≡_, refl}
-use mathlib.Core.List.{List, [], _∷_}
-use Prim.Native.Nat.{ℕ, _^_, _-_}
+use mathlib.Core.List.{[], _∷_}
+use Prim.Native.Nat.{_^_, _-_}
 use Rattle.units.specs.Limits.{last-minute}
 use Rattle.report.specs.declared.Report.the-variants.{DeskLinks, DeskRefused, Booked, Offered, Cancelled, Clock, Refused}
 use Rattle.report.specs.Text.{ascii}

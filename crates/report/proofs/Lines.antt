@@ -1,7 +1,7 @@
 -- The pieces of a line, and that the longest one has room.
 use mathlib.Core.Path.{_≡_, refl, sym, ap, _∙_}
 use mathlib.Core.List.{List, [], _∷_, _++_, append-assoc, append-nil}
-use Prim.Native.Nat.{ℕ, zero, suc, _+_, _*_, _^_, _≤_, _<_}
+use Prim.Native.Nat.{ℕ, _+_, _≤_, _<_}
 use native.Mathlib.Omega.{arith}
 use lib.ListN.{length, getD, take, drop, take-append-drop, length-append}
 use Rattle.units.specs.declared.Minute.{Minute}
@@ -9,7 +9,6 @@ use Rattle.report.specs.declared.Report.the-variants.{Booked, Offered}
 use Rattle.report.specs.Text.{ascii}
 use Rattle.report.specs.Decimal.{decimal}
 use Rattle.report.specs.Line.{numbers, route, answer}
-use Rattle.report.proofs.Decimals.{few-digits}
 use Rattle.report.proofs.Writing.{one-more}
 
 pub numbers-append : (xs ys : List ℕ) → numbers (xs ++ ys) ≡ numbers xs ++ numbers ys

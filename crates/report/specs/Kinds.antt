@@ -1,5 +1,5 @@
 -- The reports by number, for a program in another language.
-use mathlib.Core.List.{List, [], _∷_}
+use mathlib.Core.List.{[], _∷_}
 use Prim.Native.Nat.{ℕ}
 use lib.ListN.{getD}
 use Rattle.units.specs.declared.Minute.{Minute}

@@ -83,7 +83,6 @@ fn random_lines() {
         let (place, report, links) = (number(&mut random), report(&mut random), path(&mut random));
         same_line(&mut out, at, place, report, &links);
     }
-    println!("{LINES} lines, no difference");
 }
 
 #[test]

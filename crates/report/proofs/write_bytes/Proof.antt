@@ -1,6 +1,5 @@
 -- `write_bytes` meets its contract: after i turns the first i bytes are written.
-use mathlib.Core.Path.{_≡_, refl, _∙_}
-use mathlib.Core.List.{[], _∷_, _++_}
+use mathlib.Core.Path.{_≡_, refl}
 use Prim.Native.Nat.{_+_, _-_, _≤_, _<_}
 use native.Mathlib.Nat.{add-zero, add-assoc}
 use native.Mathlib.Omega.{arith}
@@ -11,8 +10,6 @@ use Rattle.report.specs.Written.{Wrote}
 use Rattle.report.proofs.Writing.{none, one, joined, one-more}
 use Rattle.report.proofs.write_bytes.Statement.{statement}
 use Rattle.report.proofs.write_bytes.Tie as tie
-use Rattle.report.proofs.write_bytes.Reads as reads
-use Rattle.report.proofs.write_bytes.Lts as lts
 
 abbrev Inv-loop : tie.InvT-loop
 Inv-loop out₀ at bytes i₀ out i = (i ≤ length bytes) × (length out ≡ length out₀) × Wrote (take i bytes) out₀ at out (at + i)
