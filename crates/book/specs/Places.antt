@@ -42,10 +42,23 @@ standing nothing = Nowhere
 unfoldable pub find : ℕ → List ℕ → ℕ → Standing
 find number book n = standing (firstFrom 0 n (λ i. eqb (number-at book i) number))
 
--- the place of a new number: how many of the places from i on, n in all, have a number at or below it before one has not
-unfoldable pub slot-from : ℕ → List ℕ → ℕ → ℕ → ℕ
-slot-from number book i zero = 0
-slot-from number book i (suc n) = elim (leb (number-at book i) number) [ true ↦ suc (slot-from number book (suc i) n) | false ↦ 0 ]
+-- the booking numbers of the first n places
+abbrev pub numbers-in : List ℕ → ℕ → List ℕ
+numbers-in book n = map (number-at book) (count-from 0 n)
+
+-- one place further if the test passes
+abbrev pub further : Bool → ℕ → ℕ
+further true place = suc place
+further false place = 0
+
+-- how many of these rising numbers come before a new one
+unfoldable pub slot-among : ℕ → List ℕ → ℕ
+slot-among number [] = 0
+slot-among number (first ∷ others) = further (leb first number) (slot-among number others)
+
+-- the place of a new number among the first n places
+abbrev pub slot : ℕ → List ℕ → ℕ → ℕ
+slot number book n = slot-among number (numbers-in book n)
 
 -- the book with a booking put in at place i: those behind it move up
 unfoldable pub with-booking : ℕ → Booking → List ℕ → List ℕ
