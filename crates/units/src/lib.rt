@@ -41,6 +41,10 @@ pub const EVENTS: usize = 2 * BOOKINGS + 1;
 // The figures of a place of the book: number, start, duration, bandwidth, count of links, and the path.
 pub const PLACE: usize = 5 + PATH_LINKS;
 
+// The figures of the whole free table, and of the whole book.
+pub const FREE_FIGURES: usize = EVENTS * ROW;
+pub const BOOK_FIGURES: usize = BOOKINGS * PLACE;
+
 // A point in time, in whole minutes.
 #[repr(C)]
 pub struct Minute(pub u32);
