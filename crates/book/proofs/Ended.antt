@@ -1,6 +1,6 @@
 -- Dropping what has ended, place by place: the front holds those that stand of the places that are passed, and the places
 -- behind are as they came.
-use mathlib.Core.Path.{_≡_, refl, sym, ap, ap₂, _∙_}
+use mathlib.Core.Path.{_≡_, refl, sym, ap, ap₂, subst₂, _∙_}
 use mathlib.Core.List.{List, [], _∷_, _++_, map, flatten, map-append, append-assoc, append-nil}
 use mathlib.Core.Bool.{Bool, true, false}
 use Prim.Native.Nat.{ℕ, zero, suc, _+_, _-_, _*_, _≤_}
@@ -60,6 +60,9 @@ pub record Kept (clock : ℕ) (came book : List ℕ) (kept place : ℕ) : Type 0
 pub kept-none : (clock : ℕ) (came : List ℕ) → Kept clock came came 0 0
 unfolding still-standing select count-from flatten
 kept-none clock came = record { few = omega arith; count = refl; front = refl; behind = refl }
+
+pub kept-as : {clock : ℕ} {came book after : List ℕ} {kept count place : ℕ} → after ≡ book → count ≡ kept → Kept clock came book kept place → Kept clock came after count place
+kept-as {clock} {came} {place = place} e n k = subst₂ (λ (b : List ℕ) i. Kept clock came b i place) (sym e) (sym n) k
 
 -- the book with place `from` copied over place `to`
 abbrev pub place-copied : ℕ → ℕ → List ℕ → List ℕ

@@ -48,8 +48,7 @@ loop-again c =
     let l = c .before .before .loop in
     let part = c .before .before .before .before .args .part .now in
     let e : place-size + l .i ≡ l .i + place-size = omega arith in
-    let d : length (drop place-size part) ≡ length part - place-size = length-drop place-size part in
-    (
+    let d : length (drop place-size part) ≡ length part - place-size = length-drop place-size part in (
       omega arith,
       (
         simp length-set (omega arith),
