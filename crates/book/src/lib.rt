@@ -1,7 +1,11 @@
 // The book table: 64 places of 36 figures, a booking each by rising number, zero past the last. The desk calls this to
 // read a place, find a number, put a booking in, take one out and drop those that have ended. It never sees what is free.
-use units::{clear_from, Bandwidth, Duration, Minute, PATH_LINKS, PLACE};
-
+use units::Bandwidth;
+use units::Duration;
+use units::Minute;
+use units::PATH_LINKS;
+use units::PLACE;
+use units::clear_from;
 ghost use mathlib.Core.Path.{_≡_};
 ghost use mathlib.Core.List.{_++_};
 ghost use Prim.Native.Nat.{_+_, _-_, _*_, _≤_, _<_};
@@ -11,9 +15,13 @@ ghost use Rattle.book.specs.Places.{booking-in, figures, find, slot, wit
 
 // Where the figures of a place stand in it; its number stands first.
 const START: usize = 1;
+
 const DURATION: usize = 2;
+
 const BANDWIDTH: usize = 3;
+
 const COUNT: usize = 4;
+
 const PATH: usize = 5;
 
 // A booking as a place of the book holds it: a path of `count` links, zero past the last.

@@ -1,8 +1,8 @@
 -- `booking_at` meets its contract: field by field what the place holds.
-use mathlib.Core.Path.{_≡_, ap}
-use mathlib.Core.List.{List}
-use Prim.Native.Nat.{ℕ}
+use Prim.Native.Nat.{_+_, _*_}
 use borrow.Author.Needs.{needs}
+use lib.ListN.{getD}
+use Rattle.units.specs.Limits.{place-size}
 use Rattle.book.specs.Places.{booking-in}
 use Rattle.book.proofs.booking_at.Statement.{statement}
 use Rattle.book.proofs.booking_at.Tie as tie
@@ -59,9 +59,19 @@ path-at-requires : tie.Need-path-at-requires
 path-at-requires c κs = search needs
 
 returns : tie.Need-returns
+unfolding booking-in
 returns c =
     let a = c .before .before .before .before .before .before .before .args in
-    ap (λ (l : List ℕ). record { booking-in (a .book .now) (a .place) with links = l }) (c .path-at .ensures)
+    let book = a .book .now in
+    let at = a .place * place-size in
+    λ j. record {
+      number = getD book at 0;
+      start = record { 0 = getD book (at + 1) 0 };
+      duration = record { 0 = getD book (at + 2) 0 };
+      bandwidth = record { 0 = getD book (at + 3) 0 };
+      count = getD book (at + 4) 0;
+      links = c .path-at .ensures j;
+    }
 
 pub booking-at-spec : {M : Type 1} → statement M
 booking-at-spec =

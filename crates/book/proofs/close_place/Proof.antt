@@ -1,10 +1,10 @@
 -- `close_place` meets its contract: each of the first i figures is the one that stood a place behind it.
-use mathlib.Core.Path.{_≡_, refl, sym, ap, _∙_}
-use mathlib.Core.List.{List}
+use mathlib.Core.Path.{_≡_, refl, sym, ap, ap₂, _∙_}
+use mathlib.Core.List.{List, _++_}
 use Prim.Native.Nat.{ℕ, _+_, _-_, _≤_}
 use native.Mathlib.Omega.{arith}
-use lib.ListN.{length, getD, set, drop, length-drop, length-set}
-use lib.Seq.{getD-drop}
+use lib.ListN.{length, getD, set, take, drop, replicate, length-drop, length-set}
+use lib.Seq.{getD-drop, take-all, take-at}
 use Rattle.units.specs.Limits.{place-size}
 use Rattle.book.proofs.Copying.{copied, copied-more, copied-ahead}
 use Rattle.book.proofs.close_place.Statement.{statement}
@@ -48,8 +48,7 @@ loop-again c =
     let l = c .before .before .loop in
     let part = c .before .before .before .before .args .part .now in
     let e : place-size + l .i ≡ l .i + place-size = omega arith in
-    let d : length (drop place-size part) ≡ length part - place-size = length-drop place-size part in
-    (
+    let d : length (drop place-size part) ≡ length part - place-size = length-drop place-size part in (
       omega arith,
       (
         simp length-set (omega arith),
@@ -66,7 +65,15 @@ same-length : tie.Need-same-length Inv-loop μ-loop
 same-length c = omega arith
 
 returns : tie.Need-returns Inv-loop μ-loop
-returns c = ?d
+returns c =
+    let l = c .before .before .before .before .before .loop in
+    let part = c .before .before .before .before .before .before .before .args .part .now in
+    let kept = length part - place-size in
+    let d : length (drop place-size part) ≡ kept = length-drop place-size part in
+    let e : l .i ≡ kept = omega arith in
+    let z : length (l .part) - kept ≡ place-size = omega arith in
+    c .before .before .clear-from .ensures
+    ∙ ap₂ (λ (t : List ℕ) n. t ++ replicate n 0) (ap (take kept) (l .inv .1 .1 ∙ ap (λ i. copied i (drop place-size part) part) e) ∙ ap (λ (t : List ℕ). take kept (t ++ drop kept part)) (take-all kept (drop place-size part) (omega arith)) ∙ take-at (drop place-size part) (drop kept part) kept d) z
 
 pub close-place-spec : {M : Type 1} → statement M
 close-place-spec =

@@ -59,8 +59,7 @@ loop-again c =
     let source = a .from * place-size in
     let target = a .to * place-size in
     let d : length (drop source book) ≡ length book - source = length-drop source book in
-    let o : target ≤ source = mul-le-mul-right place-size (c .before .before .before .pre .0) in
-    (
+    let o : target ≤ source = mul-le-mul-right place-size (c .before .before .before .pre .0) in (
       refl,
       (
         refl,

@@ -1,60 +1,64 @@
+-- `drop_ended` meets its contract: the places that are passed and stand are at the front, and those behind are as they came.
+use mathlib.Core.Path.{_≡_, sym, ap, _∙_}
+use mathlib.Core.Logic.{⊎-elim}
+use Prim.Native.Nat.{_+_, _-_, _≤_}
+use native.Mathlib.Omega.{arith}
+use lib.ListN.{length}
+use Rattle.book.specs.Places.{still-standing, only-places}
+use Rattle.book.proofs.Ended.{Kept, kept-none, kept-as, kept-same, kept-more, kept-all}
 use Rattle.book.proofs.drop_ended.Statement.{statement}
 use Rattle.book.proofs.drop_ended.Tie as tie
-use Rattle.book.proofs.drop_ended.Reads as reads
-use Rattle.book.proofs.drop_ended.Lts as lts
-use Rattle.book.proofs.copy_place.Reads as copy-place-reads
-use Rattle.book.proofs.stands.Reads as stands-reads
-use Rattle.units.proofs.clear_from.Reads as clear-from-reads
 
 abbrev Inv-loop : tie.InvT-loop
-Inv-loop book₀ count clock kept₀ place₀ book kept place = ?
+Inv-loop book₀ count clock kept₀ place₀ book kept place = (place ≤ count) × ((length book ≡ length book₀) × Kept (clock .0) book₀ book kept place)
 
 abbrev μ-loop : tie.MeasureT-loop
-μ-loop book₀ count clock kept₀ place₀ book kept place = ?
+μ-loop book₀ count clock kept₀ place₀ book kept place = count - place
 
--- src/lib.rt:207:5
 loop-holds : tie.Need-loop-holds Inv-loop μ-loop
-loop-holds c = ?
+loop-holds c = (omega arith, (omega arith, kept-none (c .before .args .clock .0) (c .before .args .book .now)))
 
--- src/lib.rt:208:12
 stands-requires : tie.Need-stands-requires Inv-loop μ-loop
-stands-requires c κs = ?
+stands-requires c κs = omega arith
 
--- src/lib.rt:209:13
 copy-place-requires : tie.Need-copy-place-requires Inv-loop μ-loop
-copy-place-requires c κs = ?
+copy-place-requires c κs = omega arith
 
--- src/lib.rt:210:13
 add-kept : tie.Need-add-kept Inv-loop μ-loop
-add-kept c = ?
+add-kept c = omega arith
 
--- src/lib.rt:212:9
 add-place : tie.Need-add-place Inv-loop μ-loop
-add-place c = ?
+add-place c = omega arith
 
--- src/lib.rt:207:5
 loop-less : tie.Need-loop-less Inv-loop μ-loop
-loop-less c = ?
+loop-less c = omega arith
 
--- src/lib.rt:207:5
 loop-again : tie.Need-loop-again Inv-loop μ-loop
-loop-again c = ?
+loop-again c =
+    let l = c .before .before .before .before .loop in
+    let a = c .before .before .before .before .before .before .args in
+    let s = c .before .stands in
+    ⊎-elim
+    (λ w. (omega arith, (omega (arith, ap length (w .5)), kept-as (w .5 ∙ w .2 .ensures) (w .6) (kept-more (a .clock .0) (a .book .now) (l .book) (l .kept) (l .place) (l .inv .1 .1) (sym (s .ensures) ∙ w .0 .taken) (omega arith)))))
+    (λ w. (omega arith, (omega (arith, ap length (w .1)), kept-as (w .1) (w .2) (kept-same (a .clock .0) (a .book .now) (l .book) (l .kept) (l .place) (l .inv .1 .1) (sym (s .ensures) ∙ w .0 .left)))))
+    (c .if1 .came)
 
--- src/lib.rt:214:22
 mul-clear-from : tie.Need-mul-clear-from Inv-loop μ-loop
-mul-clear-from c = ?
+mul-clear-from c = omega arith
 
--- src/lib.rt:214:5
 clear-from-requires : tie.Need-clear-from-requires Inv-loop μ-loop
-clear-from-requires c κs = ?
+clear-from-requires c κs = omega arith
 
--- src/lib.rt:200:1
 same-length : tie.Need-same-length Inv-loop μ-loop
-same-length c = ?
+same-length c = omega arith
 
--- src/lib.rt:200:1
 returns : tie.Need-returns Inv-loop μ-loop
-returns c = ?
+returns c =
+    let l = c .before .before .before .before .before .loop in
+    let a = c .before .before .before .before .before .before .before .args in
+    let e : l .place ≡ a .count = omega arith in
+    let r = kept-all (a .clock .0) (a .book .now) (l .book) (l .kept) (l .place) (l .inv .1 .1) (omega arith) (omega arith) in
+    (l .inv .1 .1 .count ∙ ap (λ n. length (still-standing (a .clock .0) (a .book .now) n)) e, c .before .before .clear-from .ensures ∙ r ∙ ap (λ n. only-places (still-standing (a .clock .0) (a .book .now) n)) e)
 
 pub drop-ended-spec : {M : Type 1} → statement M
 drop-ended-spec =

@@ -1,53 +1,51 @@
+-- `write_place` meets its contract: five figures, and the path behind them.
+use mathlib.Core.Path.{_≡_, ap}
+use native.Mathlib.Omega.{arith}
 use borrow.Author.Needs.{needs}
+use lib.ListN.{length, drop, length-append, length-drop, length-set}
+use Rattle.units.specs.Limits.{most-hops, place-size}
+use Rattle.units.proofs.Pieces.{length-rest}
+use Rattle.book.proofs.Writing.{place-written}
 use Rattle.book.proofs.write_place.Statement.{statement}
 use Rattle.book.proofs.write_place.Tie as tie
-use Rattle.book.proofs.write_place.Reads as reads
-use Rattle.book.proofs.write_place.Lts as lts
-use Rattle.book.proofs.write_path.Reads as write-path-reads
 
--- src/lib.rt:125:5
 slice-write-part : tie.Need-slice-write-part
 slice-write-part c = search needs
 
--- src/lib.rt:126:5
 slice-write-part-2 : tie.Need-slice-write-part-2
-slice-write-part-2 c = ?
+slice-write-part-2 c = simp length-set (omega arith)
 
--- src/lib.rt:127:5
 slice-write-part-3 : tie.Need-slice-write-part-3
-slice-write-part-3 c = ?
+slice-write-part-3 c = simp length-set (omega arith)
 
--- src/lib.rt:128:5
 slice-write-part-4 : tie.Need-slice-write-part-4
-slice-write-part-4 c = ?
+slice-write-part-4 c = simp length-set (omega arith)
 
--- src/lib.rt:129:5
 slice-write-part-5 : tie.Need-slice-write-part-5
-slice-write-part-5 c = ?
+slice-write-part-5 c = simp length-set (omega arith)
 
--- src/lib.rt:131:16
 sub-write-path : tie.Need-sub-write-path
-sub-write-path c = ?
+sub-write-path c = simp length-set (omega arith)
 
--- src/lib.rt:131:16
 part-write-path-start : tie.Need-part-write-path-start
-part-write-path-start c = ?
+part-write-path-start c = simp length-set (omega arith)
 
--- src/lib.rt:131:16
 part-write-path-end : tie.Need-part-write-path-end
 part-write-path-end c = search needs
 
--- src/lib.rt:131:5
 write-path-requires : tie.Need-write-path-requires
-write-path-requires c κs = ?
+write-path-requires c κs = rw length-rest (simp length-set (omega arith))
 
--- src/lib.rt:121:1
-same-length : tie.Need-same-length
-same-length c = ?
-
--- src/lib.rt:121:1
 returns : tie.Need-returns
-returns c = ?
+returns c =
+    let a = c .before .before .before .before .before .before .args in
+    place-written (a .part .now) (c .before .before .write-path .last .0) (a .booking .links) (a .booking .number) (a .booking .start .0) (a .booking .duration .0) (a .booking .bandwidth .0) (a .booking .count) (omega arith) (c .before .before .write-path .ensures)
+
+same-length : tie.Need-same-length
+same-length c =
+    let a = c .before .before .before .before .before .before .args in
+    let path : length (a .booking .links) ≡ most-hops = search needs in
+    omega (arith, ap length (returns c), length-append (a .booking .links) (drop place-size (a .part .now)), length-drop place-size (a .part .now))
 
 pub write-place-spec : {M : Type 1} → statement M
 write-place-spec =
