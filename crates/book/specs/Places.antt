@@ -16,7 +16,7 @@ abbrev pub number-at : List ℕ → ℕ → ℕ
 number-at book i = getD book (i * place-size) 0
 
 -- document 01's booking at place i: number, start, duration, bandwidth, count of links, and the path with the zeros behind it
-unfoldable pub booking-in : List ℕ → ℕ → Booking
+abbrev pub booking-in : List ℕ → ℕ → Booking
 booking-in book i = record {
   number = number-at book i;
   start = record { 0 = getD book (i * place-size + 1) 0 };
