@@ -3,3 +3,4 @@ pub mod Finding
 pub mod Copying
 pub mod Writing
 pub mod Ended
+pub mod Filled
