@@ -45,8 +45,8 @@ element-copy-out-to c = search needs
 cast-to : tie.Need-cast-to Inv-loop μ-loop
 cast-to c = search needs
 
-element-copy-out-leads-nearer : tie.Need-element-copy-out-leads-nearer Inv-loop μ-loop
-element-copy-out-leads-nearer c = search needs
+element-copy-out-usable : tie.Need-element-copy-out-usable Inv-loop μ-loop
+element-copy-out-usable c = search needs
 
 mul-leads-nearer : tie.Need-mul-leads-nearer Inv-loop μ-loop
 mul-leads-nearer c = omega (arith, c .before .before .before .before .before .pre .0 .to-node (c .before .before .before .before .loop .link) (search needs))
@@ -125,7 +125,7 @@ round-spec =
     mul-to
     element-copy-out-to
     cast-to
-    element-copy-out-leads-nearer
+    element-copy-out-usable
     mul-leads-nearer
     array-read-leads-nearer
     mul-leads-nearer-2
