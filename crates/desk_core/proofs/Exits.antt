@@ -5,9 +5,12 @@ use mathlib.Core.Bool.{Bool, true, false}
 use Prim.Native.Nat.{ℕ, zero, suc, _≤_}
 use native.Mathlib.Omega.{arith}
 use Rattle.units.specs.declared.Link.{Link}
+use Rattle.units.specs.declared.Head.{Head}
+use Rattle.choice.specs.declared.ChoiceRecord.{ChoiceRecord}
 use Rattle.desk_core.specs.Plain.{Plain}
-use Rattle.desk_core.specs.Calls.{Ask, book, offer, cancel, move-clock, show, Call, set-up, ask, Answer, done, refuse, Check, check, checked, first-refusal, own-checks, result, answer}
+use Rattle.desk_core.specs.Calls.{Ask, book, offer, cancel, move-clock, show, Call, set-up, ask, Answer, done, refuse, values, Check, check, checked, first-refusal, own-checks, result, answer}
 use Rattle.desk_core.specs.Tables.{Tables, Outcome, sized, links-ok, sound, held, table-checks, answer-on, left-by, outcome}
+use Rattle.desk_core.specs.Lent.{lent, granted, shown, granted-answer, shown-answer, refusal-answer, head-after, events-after, free-after, book-after}
 use Rattle.desk_core.proofs.Checks.{Passed, passed-answer, stopped-answer}
 
 -- a refusal, with the tables as they came
@@ -98,3 +101,38 @@ module _ (links : List Link) (t : Tables) where
 
     pub accepted : first-refusal (own-checks links (held t) a) ≡ 0 → (r : Answer) → result links (held t) a ≡ r → outcome links t (ask a) ≡ record { answer = r; tables = left-by links t (ask a) r }
     accepted q r f = outcome-of (ask a) r (answered ∙ passed-answer (own-checks links (held t) a) (result links (held t) a) (all-passed q) ∙ f)
+
+-- ---- as the contracts of the calls put it
+
+module _ (links : List Link) (t : Tables) (c : Call) (o : Outcome) (e : outcome links t c ≡ o) where
+  -- the tables that are handed back
+  abbrev pub Handed : Head → List ℕ → List ℕ → List ℕ → Type 0
+  Handed head events free places = (head ≡ head-after links t c) × (events ≡ events-after links t c) × (free ≡ free-after links t c) × (places ≡ book-after links t c)
+
+  pub handed-tables : {head : Head} {events free places : List ℕ} → lent head events free places ≡ o .tables → Handed head events free places
+  unfolding head-after events-after free-after book-after
+  handed-tables q =
+      let same = q ∙ sym (ap (λ x. x .tables) e) in
+      (ap (λ x. x .head) same, ap (λ x. x .events) same, ap (λ x. x .free) same, ap (λ x. x .book) same)
+
+  pub handed-number : values (o .answer) .number ≡ refusal-answer links t c
+  unfolding refusal-answer
+  handed-number = sym (ap (λ x. values (x .answer) .number) e)
+
+  pub handed-grant : granted (o .answer) ≡ granted-answer links t c
+  unfolding granted-answer
+  handed-grant = sym (ap (λ x. granted (x .answer)) e)
+
+  pub handed-shown : shown (o .answer) ≡ shown-answer links t c
+  unfolding shown-answer
+  handed-shown = sym (ap (λ x. shown (x .answer)) e)
+
+  -- a call that hands back a number beside the head
+  pub handed : {k : ℕ} {head : Head} {events free places : List ℕ} → k ≡ values (o .answer) .number → lent head events free places ≡ o .tables
+      → (k ≡ refusal-answer links t c) × (head ≡ head-after links t c) × (events ≡ events-after links t c) × (free ≡ free-after links t c) × (places ≡ book-after links t c)
+  handed a q = let h = handed-tables q in (a ∙ handed-number, h .0, h .1, h .2, h .3)
+
+  -- a booking
+  pub handed-booking : {a : ChoiceRecord} {head : Head} {events free places : List ℕ} → a ≡ granted (o .answer) → lent head events free places ≡ o .tables
+      → (a ≡ granted-answer links t c) × (head ≡ head-after links t c) × (events ≡ events-after links t c) × (free ≡ free-after links t c) × (places ≡ book-after links t c)
+  handed-booking a q = let h = handed-tables q in (a ∙ handed-grant, h .0, h .1, h .2, h .3)

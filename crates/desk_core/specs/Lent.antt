@@ -3,24 +3,24 @@ use mathlib.Core.List.{List}
 use Prim.Native.Nat.{ℕ}
 use Rattle.units.specs.declared.Link.{Link}
 use Rattle.units.specs.declared.Head.{Head}
-use Rattle.desk_core.specs.declared.Granted.{Granted}
+use Rattle.choice.specs.declared.ChoiceRecord.{ChoiceRecord}
 use Rattle.desk_core.specs.declared.Shown.{Shown}
 use Rattle.desk_core.specs.Calls.{Call, Answer, values}
 use Rattle.desk_core.specs.Tables.{Tables, outcome}
 
 -- the tables as they are lent
 abbrev pub lent : Head → List ℕ → List ℕ → List ℕ → Tables
-lent head events free book = record { head = head; events = events; free = free; book = book }
+lent head events free places = record { head = head; events = events; free = free; book = places }
 
 -- an answer's number and values, for a booking or an offer, and for a showing
-abbrev pub granted : Answer → Granted
+abbrev pub granted : Answer → ChoiceRecord
 granted a = record { refusal = values a .number; start = record { 0 = values a .start }; path = record { count = values a .count; links = values a .path } }
 
 abbrev pub shown : Answer → Shown
 shown a = record { refusal = values a .number; free = record { 0 = values a .figure } }
 
 module _ (links : List Link) (t : Tables) (c : Call) where
-  unfoldable pub granted-answer : Granted
+  unfoldable pub granted-answer : ChoiceRecord
   granted-answer = granted (outcome links t c .answer)
 
   unfoldable pub shown-answer : Shown

@@ -43,6 +43,7 @@ pub const PLACE: usize = 5 + PATH_LINKS;
 
 // The figures of the whole free table, and of the whole book.
 pub const FREE_FIGURES: usize = EVENTS * ROW;
+
 pub const BOOK_FIGURES: usize = BOOKINGS * PLACE;
 
 // A point in time, in whole minutes.
