@@ -1,7 +1,7 @@
 -- Dropping what has ended, place by place: the front holds those that stand of the places that are passed, and the places
 -- behind are as they came.
 use mathlib.Core.Path.{_≡_, refl, sym, ap, ap₂, subst₂, _∙_}
-use mathlib.Core.List.{List, [], _∷_, _++_, map, flatten, map-append, append-assoc, append-nil}
+use mathlib.Core.List.{List, [], _∷_, _++_, flatten, map-append, append-assoc, append-nil}
 use mathlib.Core.Bool.{Bool, true, false}
 use Prim.Native.Nat.{ℕ, zero, suc, _+_, _-_, _*_, _≤_}
 use native.Mathlib.Numerals.{add-one}

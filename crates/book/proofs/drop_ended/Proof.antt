@@ -1,7 +1,7 @@
 -- `drop_ended` meets its contract: the places that are passed and stand are at the front, and those behind are as they came.
 use mathlib.Core.Path.{_≡_, sym, ap, _∙_}
 use mathlib.Core.Logic.{⊎-elim}
-use Prim.Native.Nat.{_+_, _-_, _≤_}
+use Prim.Native.Nat.{_-_, _≤_}
 use native.Mathlib.Omega.{arith}
 use lib.ListN.{length}
 use Rattle.book.specs.Places.{still-standing, only-places}
