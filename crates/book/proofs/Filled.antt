@@ -5,7 +5,7 @@ use mathlib.Core.List.{List, [], _∷_, _++_, map, flatten}
 use mathlib.Core.Bool.{Bool, true, false}
 use Prim.Native.Nat.{ℕ, suc, _+_, _-_, _*_, _≤_}
 use native.Mathlib.Omega.{arith}
-use lib.ListN.{length, getD, take, drop, length-append, List·getD-append}
+use lib.ListN.{length, getD, take, drop, length-append, length-map, List·getD-append}
 use lib.Seq.{take-at, drop-at, getD-append-add}
 use Rattle.units.specs.Limits.{most-bookings, place-size}
 use Rattle.units.specs.Lists.{cons-if, select, put-in, All}
@@ -56,6 +56,9 @@ module _ {A : Type 0} (f : A → List ℕ) where
           ap (λ n. getD (before ++ (f x ++ behind)) n 0) e ∙ getD-append-add before (f x ++ behind) 0 0 ∙ List·getD-append (f x) behind 0 0 (omega (arith, r .0))
 
   module _ (xs : List A) (r : Rows f place-size xs) where
+    pub length-filled : length xs ≤ most-bookings → length (filled xs) ≡ most-bookings * place-size
+    length-filled h = length-padded (most-bookings * place-size) (flatten (map f xs)) (omega (arith, length-rows f place-size xs r))
+
     pub places-filled : places-in (filled xs) (length xs) ≡ map f xs
     places-filled = read-filled f place-in f xs r (reads-place xs r)
 
@@ -66,6 +69,13 @@ module _ {A : Type 0} (f : A → List ℕ) where
     pub standing-filled : (clock : ℕ) → still-standing clock (filled xs) (length xs) ≡ map f (select (λ x. stands-at clock (f x)) xs)
     unfolding still-standing
     standing-filled clock = ap (select (stands-at clock)) places-filled ∙ select-map (stands-at clock) f xs
+
+    -- what dropping the ended leaves, and how many
+    pub drop-filled : (clock : ℕ) → only-places (still-standing clock (filled xs) (length xs)) ≡ filled (select (λ x. stands-at clock (f x)) xs)
+    drop-filled clock = ap only-places (standing-filled clock)
+
+    pub count-filled : (clock : ℕ) → length (still-standing clock (filled xs) (length xs)) ≡ length (select (λ x. stands-at clock (f x)) xs)
+    count-filled clock = ap length (standing-filled clock) ∙ length-map (select (λ x. stands-at clock (f x)) xs) f
 
     pub slot-filled : (number : ℕ) → slot number (filled xs) (length xs) ≡ slot-among number (map number-of xs)
     slot-filled number = ap (slot-among number) numbers-filled
@@ -81,7 +91,7 @@ module _ {A : Type 0} (f : A → List ℕ) where
   -- with the booking of one row more, and without a row
   module _ (xs : List A) (x : A) (ys : List A) (r : Rows f place-size (xs ++ (x ∷ ys))) (few : length xs + suc (length ys) ≤ most-bookings) where
     whole : length (filled (xs ++ ys)) ≡ most-bookings * place-size
-    whole = length-padded (most-bookings * place-size) (flatten (map f (xs ++ ys))) (omega (arith, length-rows f place-size (xs ++ ys) (all-without (λ y. length (f y) ≡ place-size) xs x ys r), length-append xs ys))
+    whole = length-filled (xs ++ ys) (all-without (λ y. length (f y) ≡ place-size) xs x ys r) (omega (arith, length-append xs ys))
 
     room : length (filled (xs ++ ys)) - (length xs * place-size + length (f x)) ≡ most-bookings * place-size - (length xs * place-size + place-size)
     room = omega (arith, whole, all-between (λ y. length (f y) ≡ place-size) xs x ys r)

@@ -13,8 +13,9 @@ use Rattle.units.specs.Search.{Found, at, nothing, firstFrom}
 use Rattle.units.proofs.Search.{passes?, first-here, first-after}
 use Rattle.book.specs.declared.Standing.{Standing}
 use Rattle.book.specs.declared.Standing.the-variants.{At, Nowhere}
-use Rattle.book.specs.Places.{number-at, standing}
+use Rattle.book.specs.Places.{standing}
 
+-- here if the test passes, else what is found behind
 abbrev pub found-if : Bool → ℕ → Found → Found
 found-if true i behind = at i
 found-if false i behind = behind
@@ -24,16 +25,17 @@ unfoldable pub first-in : ℕ → ℕ → List ℕ → Found
 first-in number i [] = nothing
 first-in number i (m ∷ ms) = found-if (eqb m number) i (first-in number (suc i) ms)
 
-pub first-read : (number : ℕ) (number-at : ℕ → ℕ) (i n : ℕ) → firstFrom i n (λ k. eqb (number-at k) number) ≡ first-in number i (map number-at (count-from i n))
+-- the search over places is the search in the list of what they hold
+pub first-read : (number : ℕ) (read : ℕ → ℕ) (i n : ℕ) → firstFrom i n (λ k. eqb (read k) number) ≡ first-in number i (map read (count-from i n))
 unfolding firstFrom first-in count-from
-first-read number number-at i zero = refl
-first-read number number-at i (suc n) = by (passes? (eqb (number-at i) number)) (first-read number number-at (suc i) n)
+first-read number read i zero = refl
+first-read number read i (suc n) = by (passes? (eqb (read i) number)) (first-read number read (suc i) n)
   where
     test : ℕ → Bool
-    test k = eqb (number-at k) number
+    test k = eqb (read k) number
 
     behind : Found
-    behind = first-in number (suc i) (map number-at (count-from (suc i) n))
+    behind = first-in number (suc i) (map read (count-from (suc i) n))
 
     by : (test i ≡ true) ⊎ (test i ≡ false) → firstFrom (suc i) n test ≡ behind → firstFrom i (suc n) test ≡ found-if (test i) i behind
     by (inl e) ih = first-here test i n e ∙ sym (ap (λ t. found-if t i behind) e)

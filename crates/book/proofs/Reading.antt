@@ -1,10 +1,10 @@
 -- Reading the places of a book table one after the other: each gives what its figures say, whatever stands around it.
 use mathlib.Core.Path.{_≡_, refl, sym, ap, ap₂, _∙_}
 use mathlib.Core.List.{List, [], _∷_, _++_, map, flatten, append-assoc}
-use Prim.Native.Nat.{ℕ, suc, _+_, _-_, _*_, _≤_}
+use Prim.Native.Nat.{ℕ, suc, _+_, _-_, _*_, _≤_, _<_}
 use native.Mathlib.Omega.{arith}
 use lib.ListN.{length, getD, take, drop, replicate, length-append, length-drop}
-use lib.Seq.{drop-drop, getD-drop}
+use lib.Seq.{drop-drop, getD-take, getD-drop}
 use Rattle.units.specs.Limits.{most-hops, most-bookings, place-size}
 use Rattle.units.specs.Lists.{count-from, All}
 use Rattle.units.proofs.Padded.{Rows}
@@ -35,6 +35,10 @@ module _ {A B : Type 0} (f : A → List ℕ) (read : List ℕ → ℕ → B) (is
   pub read-filled : (xs : List A) → Rows f place-size xs → All Reads xs → map (read (only-places (map f xs))) (count-from 0 (length xs)) ≡ map is xs
   read-filled xs r a = read-from xs (only-places (map f xs)) [] (replicate (most-bookings * place-size - length (flatten (map f xs))) 0) 0 refl refl r a
 
+-- figure k of a place
+pub figure-in : (book : List ℕ) (i k : ℕ) → k < place-size → getD book (i * place-size + k) 0 ≡ getD (place-in book i) k 0
+figure-in book i k h = sym (getD-take place-size (drop (i * place-size) book) k 0 h ∙ getD-drop (i * place-size) book k 0)
+
 five-and-rest : (l : List ℕ) → 5 ≤ length l → take place-size l ≡ getD l 0 0 ∷ getD l 1 0 ∷ getD l 2 0 ∷ getD l 3 0 ∷ getD l 4 0 ∷ take most-hops (drop 5 l)
 five-and-rest [] h = absurd (omega arith)
 five-and-rest (a ∷ []) h = absurd (omega arith)
@@ -46,13 +50,16 @@ five-and-rest (a ∷ b ∷ c ∷ d ∷ e ∷ l) h = refl
 -- the figures of the booking at a place are those of the place
 pub figures-read : (book : List ℕ) (i : ℕ) → i * place-size + place-size ≤ length book → figures (booking-in book i) ≡ place-in book i
 unfolding booking-in
-figures-read book i h = sym (five-and-rest (drop from book) (rw length-drop (omega arith)) ∙ ap₂ _∷_ first (ap₂ _∷_ (figure 1) (ap₂ _∷_ (figure 2) (ap₂ _∷_ (figure 3) (ap₂ _∷_ (figure 4) (ap (take most-hops) (drop-drop 5 from book)))))))
+figures-read book i h = sym (five-and-rest (drop from book) (rw length-drop (omega arith)) ∙ ap₂ _∷_ first (ap₂ _∷_ (figure 1) (ap₂ _∷_ (figure 2) (ap₂ _∷_ (figure 3) (ap₂ _∷_ (figure 4) path)))))
   where
     from : ℕ
     from = i * place-size
 
     figure : (k : ℕ) → getD (drop from book) k 0 ≡ getD book (from + k) 0
     figure k = getD-drop from book k 0
+
+    path : take most-hops (drop 5 (drop from book)) ≡ take most-hops (drop (from + 5) book)
+    path = ap (take most-hops) (drop-drop 5 from book)
 
     first : getD (drop from book) 0 0 ≡ getD book from 0
     first = figure 0 ∙ ap (λ n. getD book n 0) (omega arith)
