@@ -1,43 +1,31 @@
 -- What the code may answer at each of its exits: the laws of `Starts`, on the lent tables and the code's own values.
 use mathlib.Core.Path.{_≡_, refl, sym, _∙_, ap, subst}
-use mathlib.Core.List.{List, []}
+use mathlib.Core.List.{List}
 use mathlib.Core.Bool.{Bool, true, false}
 use Prim.Native.Nat.{ℕ, _≤_, _<_}
 use native.Mathlib.Omega.{arith}
 use lib.ListN.{length, getD, length-append, List·getD-eq-default}
-use Rattle.units.specs.Limits.{most-events, most-hops}
+use Rattle.units.specs.Limits.{most-events}
 use Rattle.units.specs.Lists.{padded}
-use Rattle.units.specs.Search.{Found, at, nothing}
-use Rattle.units.proofs.Search.{IsFirst, firstFrom-found}
+use Rattle.units.specs.Search.{at}
 use Rattle.units.proofs.Tests.{Side, below, above, side}
-use Rattle.units.proofs.Padded.{padded-at, padded-past, length-padded}
+use Rattle.units.proofs.Padded.{padded-at, padded-past}
 use Rattle.timeline.specs.Events.{events}
 use Rattle.timeline.proofs.Steady.{NoneBetween, ChangesAt}
 use Rattle.free_table.specs.Figures.{kept}
+use Rattle.free_table.proofs.SpanCheck.{kept-changes}
 use Rattle.path_search.specs.declared.LinkEnds.{LinkEnds}
 use Rattle.path_search.specs.declared.Path.{Path}
-use Rattle.path_search.specs.Paths.{Graph, Route, along, none, reaches, lowest, fewest, route-of, route}
+use Rattle.path_search.specs.Paths.{Graph, Route, along, none}
 use Rattle.path_search.specs.Answer.{path-of, answer}
-use Rattle.path_search.proofs.Chains.{lowest-length}
+use Rattle.path_search.proofs.Answers.{route-sized, answer-none}
 use Rattle.choice.specs.declared.Chosen.{Chosen}
-use Rattle.choice.specs.Choice.{granted, no-start, route-at, possible, choose}
+use Rattle.choice.specs.Choice.{granted, route-at, possible, choose}
 use Rattle.choice.specs.Answer.{carries, Askable, start-with, refusal, chosen}
 use Rattle.choice.proofs.Starts.{Tried, choose-none, choose-low, choose-event, choose-none-left, choose-too-late, none-impossible}
-use Rattle.choice.proofs.Lent.{carries-back, kept-changes}
+use Rattle.choice.proofs.Lent.{carries-back}
 
 -- ---- a route by its count of links
-
--- a route has a link
-route-links : (g : Graph) (usable : ℕ → Bool) (target v : ℕ) (path : List ℕ) → route g usable target v ≡ along path → 1 ≤ length path
-unfolding route fewest
-route-links g usable target v path = by (fewest g usable target v) refl
-  where
-    by : (f : Found) → fewest g usable target v ≡ f → route-of g usable target v f ≡ along path → 1 ≤ length path
-    by (at n) e q =
-        let r : IsFirst 1 most-hops (λ k. reaches g usable target k v) n = firstFrom-found (λ k. reaches g usable target k v) 1 most-hops e in
-        let same : lowest g usable target n v ≡ path = cc in
-        rw same at (rw (← lowest-length g usable target n v (r .passes)) at (r .low))
-    by nothing e q = let z : _≡_ {A = ℕ} 0 1 = cc in absurd (omega arith)
 
 module _ (g : Graph) (usable : ℕ → ℕ → Bool) (from to m : ℕ) (r : Path) (answered : r ≡ answer (route-at g usable from to m)) where
   -- an answer with a link is the route
@@ -50,11 +38,9 @@ module _ (g : Graph) (usable : ℕ → ℕ → Bool) (from to m : ℕ) (r : Path
 
   -- without one the start is not possible
   pub no-route : r .count ≤ 0 → possible g usable from to m ≡ false
-  no-route few = by (route-at g usable from to m) refl
-    where
-      by : (x : Route) → route-at g usable from to m ≡ x → possible g usable from to m ≡ false
-      by (along path) e = absurd (omega (arith, route-links g (usable m) to from path e, ap (λ (p : Path). p .count) (answered ∙ ap answer e)))
-      by none e = none-impossible g usable from to m e
+  no-route few =
+      none-impossible g usable from to m
+      (answer-none (route-at g usable from to m) (route-sized g (usable m) to from) (omega (arith, ap (λ (p : Path). p .count) answered)))
 
 -- ---- the exits
 
@@ -124,8 +110,8 @@ module _ (g : Graph) (es t : List ℕ) (bandwidth duration from to low latest c 
     pub answer-late : latest < getD es i 0 → Answered refusal
     answer-late h = sym (ap chosen (choose-too-late g carried from to c ts back low latest early i (tried-events i tried) (rw (place i) at h)))
 
-    pub answer-none : length es ≤ i → Answered refusal
-    answer-none h =
+    pub answer-left : length es ≤ i → Answered refusal
+    answer-left h =
         let long : length (events c ts) ≤ i = omega (arith, simp (length-append) at (ap length shown)) in
         let all = tried-events i tried in
         sym (ap chosen (choose-none-left g carried from to c ts back low latest early (record { not-low = all .not-low; not-events = λ j a. all .not-events j (omega arith) })))

@@ -20,9 +20,13 @@ use Rattle.choice.specs.declared.Chosen.{Chosen}
 use Rattle.choice.specs.declared.ChoiceRecord.{ChoiceRecord}
 use Rattle.choice.specs.Choice.{Choice, granted, no-start}
 
+-- document 01's 'at least the bandwidth'
+abbrev pub suffices : ℕ → ℕ → Bool
+suffices bandwidth free = leb bandwidth free
+
 -- document 01's 'at least the bandwidth free in every minute of the span', of link l and the span that starts at m
 abbrev pub carries : (ℕ → ℕ → ℕ) → ℕ → ℕ → ℕ → ℕ → Bool
-carries figure bandwidth duration m l = allFrom m duration (λ k. leb bandwidth (figure l k))
+carries figure bandwidth duration m l = allFrom m duration (λ k. suffices bandwidth (figure l k))
 
 -- the set has each link below the count that passes the test, and no other of these
 abbrev pub Has : LinkSet → ℕ → (ℕ → Bool) → Type 0

@@ -10,7 +10,8 @@ ghost use lib.Dec.{eqb, ltb};
 ghost use Rattle.units.specs.Limits.{last-node};
 ghost use Rattle.units.specs.Search.{anyBelow};
 ghost use Rattle.path_search.specs.Paths.{route};
-ghost use Rattle.path_search.specs.Rounds.{Shows, figures, before-rounds, distance, nearer, spread, least-end, nearer-link, place-of, picked, Walkable};
+ghost use Rattle.path_search.specs.Rounds.{Shows, figures, before-rounds, distance, nearer, spread};
+ghost use Rattle.path_search.specs.Picks.{least-end, nearer-link, place-of, picked, Walkable};
 ghost use Rattle.path_search.specs.Answer.{InRange, graph, usable, path-of, answer};
 use units::LAST_NODE;
 use units::LINKS;
@@ -206,6 +207,7 @@ fn no_path() -> Path
 }
 
 // The path of fewest usable links from the source to the destination, the lowest of these; no link where there is none.
+// It is exported so that a test in Rust can call it.
 #[no_mangle]
 pub extern "C" fn find_route(ends: LinkEnds, set: LinkSet, source: u32, destination: u32) -> Path
     requires { ⌜ InRange ends ⌝ }

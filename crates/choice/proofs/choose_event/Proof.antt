@@ -1,5 +1,5 @@
 -- choose_event meets its contract. Low and the events at the places below `place` are tried in vain.
-use mathlib.Core.Path.{_≡_, _∙_}
+use mathlib.Core.Path.{_∙_}
 use mathlib.Core.Logic.{⊎-elim}
 use Prim.Native.Nat.{_-_, _≤_}
 use native.Mathlib.Numerals.{add-one}
@@ -12,7 +12,7 @@ use Rattle.path_search.specs.Answer.{graph}
 use Rattle.choice.specs.Choice.{possible}
 use Rattle.choice.specs.Answer.{carries}
 use Rattle.choice.proofs.Starts.{Tried, tried-low, tried-next}
-use Rattle.choice.proofs.Exits.{no-route, askable-at, answer-event, answer-late, answer-none}
+use Rattle.choice.proofs.Exits.{no-route, askable-at, answer-event, answer-late, answer-left}
 use Rattle.choice.proofs.choose_event.Statement.{statement}
 use Rattle.choice.proofs.choose_event.Tie as tie
 use Rattle.choice.proofs.choose_event.Reads as reads
@@ -51,7 +51,7 @@ returns c =
     let a = s .args in
     let pre = s .pre .0 in
     let l = c .before .before .before .before .before .loop in
-    c .refused .ensures ∙ answer-late (graph (a .ends)) (a .events .now) (a .free .now) (a .bandwidth .0) (a .duration .0) (a .source) (a .destination) (a .low .0) (a .latest .0) (pre .clock) (pre .times) (pre .are-events) (pre .not-past) (l .place) (l .inv .1) (c .before .if1 .taken)
+    c .refused .ensures ∙ answer-late (graph (a .ends)) (a .events .now) (a .free .now) (a .bandwidth .0) (a .duration .0) (a .source) (a .destination) (a .low .0) (a .latest .0) (pre .clock) (pre .times) (pre .are-events) (pre .not-past) (l .place) (l .inv .1) (omega (arith, c .before .if1 .taken))
 
 -- src/lib.rt:151:17
 path-at-requires : tie.Need-path-at-requires Inv-loop μ-loop
@@ -70,7 +70,7 @@ returns-2 c =
     let l = c .before .before .before .before .before .before .before .before .before .before .loop in
     let p = c .before .before .before .path-at in
     c .started .ensures ∙ answer-event (graph (a .ends)) (a .events .now) (a .free .now) (a .bandwidth .0) (a .duration .0) (a .source) (a .destination) (a .low .0) (a .latest .0) (pre .clock) (pre .times) (pre .are-events) (pre .not-past) (l .place) (l .inv .1)
-    (omega (arith, c .before .before .before .before .if2 .taken)) (omega (arith, c .before .before .before .before .before .before .if1 .left)) (p .result) (p .ensures) (c .before .if3 .taken)
+    (omega (arith, c .before .before .before .before .if2 .taken)) (omega (arith, c .before .before .before .before .before .before .if1 .left)) (p .result) (p .ensures) (omega (arith, c .before .if3 .taken))
 
 -- src/lib.rt:156:9
 add-place : tie.Need-add-place Inv-loop μ-loop
@@ -108,7 +108,7 @@ returns-3 c =
     let a = s .args in
     let pre = s .pre .0 in
     let l = c .before .before .loop in
-    c .refused2 .ensures ∙ answer-none (graph (a .ends)) (a .events .now) (a .free .now) (a .bandwidth .0) (a .duration .0) (a .source) (a .destination) (a .low .0) (a .latest .0) (pre .clock) (pre .times) (pre .are-events) (pre .not-past) (l .place) (l .inv .1) (omega arith)
+    c .refused2 .ensures ∙ answer-left (graph (a .ends)) (a .events .now) (a .free .now) (a .bandwidth .0) (a .duration .0) (a .source) (a .destination) (a .low .0) (a .latest .0) (pre .clock) (pre .times) (pre .are-events) (pre .not-past) (l .place) (l .inv .1) (omega arith)
 
 pub choose-event-spec : {M : Type 1} → statement M
 choose-event-spec =

@@ -1,5 +1,5 @@
 -- choose_start meets its contract: each arm is the definition's case.
-use mathlib.Core.Path.{_≡_, sym, _∙_, ap}
+use mathlib.Core.Path.{sym, _∙_, ap}
 use borrow.Author.Needs.{needs}
 use Rattle.choice.specs.Answer.{values-of, values}
 use Rattle.choice.proofs.choose_start.Statement.{statement}

@@ -8,7 +8,7 @@ use borrow.Author.Needs.{needs}
 use Rattle.units.specs.Limits.{most-links, most-events}
 use Rattle.timeline.proofs.Rows.{row-inside, row-later}
 use Rattle.timeline.proofs.Pieces.{rest-whole, length-rest}
-use Rattle.free_table.specs.Taking.{enough-rows, enough-span}
+use Rattle.free_table.specs.Looking.{enough-rows, enough-span}
 use Rattle.choice.proofs.lasting.Statement.{statement}
 use Rattle.choice.proofs.lasting.Tie as tie
 

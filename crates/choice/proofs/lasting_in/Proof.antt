@@ -6,7 +6,7 @@ use mathlib.Core.Bool.{false}
 use lib.ListN.{length, replicate, length-set}
 use borrow.Author.Needs.{needs}
 use Rattle.units.specs.Limits.{most-links}
-use Rattle.free_table.specs.Taking.{enough-rows}
+use Rattle.free_table.specs.Looking.{enough-rows}
 use Rattle.choice.specs.Answer.{Has}
 use Rattle.choice.proofs.Sets.{has-none, has-next}
 use Rattle.choice.proofs.lasting_in.Statement.{statement}

@@ -1,11 +1,11 @@
 -- path_at meets its contract: the set has the links that carry the span, and the route depends on nothing else.
-use mathlib.Core.Path.{_≡_, refl, sym, _∙_, ap}
-use Prim.Native.Nat.{ℕ, _+_, _-_, _<_}
+use mathlib.Core.Path.{_≡_, refl, _∙_, ap}
+use Prim.Native.Nat.{ℕ, _-_, _<_}
 use native.Mathlib.Omega.{arith}
 use borrow.Author.Needs.{needs}
 use Rattle.free_table.specs.Figures.{kept}
 use Rattle.path_search.specs.Answer.{graph, usable, answer}
-use Rattle.path_search.proofs.Agree.{Agree, route-agree}
+use Rattle.path_search.proofs.Agree.{route-agree}
 use Rattle.choice.specs.Answer.{carries}
 use Rattle.choice.proofs.Lent.{enough-span-carries}
 use Rattle.choice.proofs.path_at.Statement.{statement}

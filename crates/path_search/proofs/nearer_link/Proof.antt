@@ -12,7 +12,8 @@ use borrow.Author.Tests.{eq-eqb, ne-eqb}
 use Rattle.units.specs.Search.{at, firstFrom}
 use Rattle.units.proofs.Search.{first-here, first-after}
 use Rattle.path_search.specs.Paths.{onward}
-use Rattle.path_search.specs.Rounds.{figures, place-of}
+use Rattle.path_search.specs.Rounds.{figures}
+use Rattle.path_search.specs.Picks.{place-of}
 use Rattle.path_search.specs.Answer.{graph, usable}
 use Rattle.path_search.proofs.nearer_link.Statement.{statement}
 use Rattle.path_search.proofs.nearer_link.Tie as tie

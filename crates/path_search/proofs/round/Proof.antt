@@ -7,15 +7,11 @@ use Prim.Native.Nat.{ℕ, _+_, _≤_, _<_, _-_, zero-le}
 use native.Mathlib.Omega.{arith}
 use borrow.Author.Needs.{needs}
 use lib.ListN.{length, length-set}
-use Rattle.units.specs.Search.{anyBelow}
-use Rattle.path_search.specs.Rounds.{Shows, figures, nearer, spread}
+use Rattle.path_search.specs.Rounds.{figures}
 use Rattle.path_search.specs.Answer.{graph, usable}
 use Rattle.path_search.proofs.Rounds.{Used, used-none, tested, used-nearer, used-not}
 use Rattle.path_search.proofs.round.Statement.{statement}
 use Rattle.path_search.proofs.round.Tie as tie
-use Rattle.path_search.proofs.round.Reads as reads
-use Rattle.path_search.proofs.round.Lts as lts
-use Rattle.path_search.proofs.leads_nearer.Reads as leads-nearer-reads
 
 abbrev Inv-loop : tie.InvT-loop
 Inv-loop near ends set count after₀ reached₀ link₀ after reached link =
