@@ -1,9 +1,9 @@
 -- One booking more: on the right tables, adding it gives the right tables of the plain book with it, and answers whether
 -- its links leave its bandwidth from the clock on. It holds too where a link is oversold, since figures stop at zero.
 use mathlib.Core.Path.{_≡_, refl, sym, ap, ap₂, _∙_, fun-ext, subst}
-use mathlib.Core.Logic.{_↔_}
-use mathlib.Core.List.{List, [], _∷_, map, flatten, List·Memᴰ, List·Memᴰ·head, List·Memᴰ·tail, Memᴰ·map}
-use mathlib.Core.Bool.{Bool, true, false, _&&_, _||_, false≢true, true≢false}
+use mathlib.Core.Logic.{_↔_, ⊎-elim}
+use mathlib.Core.List.{List, [], _∷_, map, flatten, List·Memᴰ, List·Memᴰ·head, List·Memᴰ·tail, List·Memᴰ·not-nil, List·Memᴰ·cases-cons, Memᴰ·map}
+use mathlib.Core.Bool.{Bool, true, false, _&&_, _||_, true≢false}
 use Prim.Native.Nat.{ℕ, _+_, _-_, _*_, _≤_, _<_}
 use native.Mathlib.Omega.{arith}
 use lib.Dec.{leb, ltb, eqb}
@@ -98,8 +98,12 @@ Fits links p b = (l : ℕ) → List·Memᴰ l (b .grant .path) → (m : ℕ) →
 
 all-tells-in : (test : ℕ → Bool) (P Q : ℕ → Type 0) → ((l : ℕ) → Q l → Tells (test l) (P l)) → (path : List ℕ) → All Q path → Tells (all test path) ((l : ℕ) → List·Memᴰ l path → P l)
 unfolding all
-all-tells-in test P Q f [] a = ((λ e l i. absurd (false≢true (member-tells l [] .1 i))), λ h. refl)
-all-tells-in test P Q f (l ∷ ls) a = ?
+all-tells-in test P Q f [] a = ((λ e l i. absurd (List·Memᴰ·not-nil i)), λ h. refl)
+all-tells-in test P Q f (l ∷ ls) a =
+    let both = f l (a .0) & all-tells-in test P Q f ls (a .1) in (
+      (λ e k i. let h = both .0 e in ⊎-elim (λ q. subst P (sym q) (h .0)) (h .1 k) (List·Memᴰ·cases-cons i)),
+      λ h. both .1 (h l (List·Memᴰ·head refl), λ k i. h k (List·Memᴰ·tail i)),
+    )
 
 -- ---- one booking more
 
@@ -142,3 +146,111 @@ module _ (links : List Link) (p : Plain) (b : Booking) (small : length links ≤
       where
         figures : less-along (free links p) (b .terms .bandwidth) (b .grant .start) (until p b) (b .grant .path) ≡ free links (put-in b p)
         figures = fun-ext λ l. fun-ext λ m. less-along-is (free links p) (b .terms .bandwidth) (b .grant .start) (until p b) (b .grant .path) (path-distinct (graph links) (b .grant .path) (r .path-right)) l m ∙ sym (free-put-in links p b l m)
+
+    -- whether a link has the bandwidth in every minute of the span from the clock on
+    link-fits : (l : ℕ) → l < length links
+        → Tells
+        (enough-span (event-table (put-in b p)) (b .grant .start) (until p b) l (b .terms .bandwidth) (table (length links) (free links p) (events-of (put-in b p))))
+        ((m : ℕ) → p .clock ≤ m → b .grant .start ≤ m → m < until p b → b .terms .bandwidth ≤ free links p l m)
+    unfolding flatten
+    link-fits l h = by (side (b .grant .start) (p .clock))
+      where
+        start : ℕ
+        start = b .grant .start
+
+        ts : List ℕ
+        ts = b .grant .start ∷ until p b ∷ all-times p
+
+        test : ℕ → Bool
+        test m = leb (b .terms .bandwidth) (free links p l m)
+
+        looked : Bool
+        looked = enough-span (event-table (put-in b p)) (b .grant .start) (until p b) l (b .terms .bandwidth) (table (length links) (free links p) (events-of (put-in b p)))
+
+        changes : ChangesAt ts (free links p l)
+        changes = changes-more start (changes-more (until p b) (free-changes links p l))
+
+        since : (first : ℕ) → start ≤ first → p .clock ≤ first → ((m : ℕ) → p .clock ≤ m → start ≤ m → first ≤ m) → looked ≡ allFrom first (until p b - first) test
+            → Tells looked ((m : ℕ) → p .clock ≤ m → start ≤ m → m < until p b → b .terms .bandwidth ≤ free links p l m)
+        since first a c later e = (
+          (λ q m i j k. at-most _ _ .0 (allFrom-all test first (until p b - first) (sym e ∙ q) m (later m i j) (let n = later m i j in omega arith))),
+          λ q. e ∙ all-allFrom test first (until p b - first) (λ m i j. at-most _ _ .1 (q m (omega arith) (omega arith) (omega arith))),
+        )
+
+        by : Side start (p .clock) → Tells looked ((m : ℕ) → p .clock ≤ m → start ≤ m → m < until p b → b .terms .bandwidth ≤ free links p l m)
+        by (below k) =
+            since (p .clock) (omega arith) (omega arith) (λ m i j. i)
+            (enough-span-early (length links) (free links p) small (p .clock) ts l (b .terms .bandwidth) h start (until p b) (omega arith)
+            ∙ enough-span-table (length links) (free links p) small (p .clock) ts l (b .terms .bandwidth) h changes (p .clock) (until p b) (omega arith) (r .still-stands))
+        by (above k) =
+            since start (omega arith) k (λ m i j. j) (enough-span-table (length links) (free links p) small (p .clock) ts l (b .terms .bandwidth) h changes start (until p b) k (omega (arith, r .duration-right .0)))
+
+    -- what is answered
+    pub answer-added : Tells
+        (enough-path (with-span (b .grant .start) (until p b) (event-table p)) (b .grant .start) (until p b) (b .terms .bandwidth) (b .grant .path) (with-span-rows most-links (event-table p) (b .grant .start) (until p b) (free-table links p)))
+        (Fits links p b)
+    unfolding enough-path
+    answer-added =
+        rw (events-added, rows-added)
+        (all-tells-in (λ l. enough-span (event-table (put-in b p)) (b .grant .start) (until p b) l (b .terms .bandwidth) (table (length links) (free links p) (events-of (put-in b p))))
+        (λ l. (m : ℕ) → p .clock ≤ m → b .grant .start ≤ m → m < until p b → b .terms .bandwidth ≤ free links p l m) (λ l. l < length links) link-fits (b .grant .path) inside)
+
+-- ---- no link is oversold with it where none was without, and its links have the bandwidth
+
+module _ (links : List Link) (p : Plain) (b : Booking) (right : BookingRight links p b) (stand : All (λ d. p .clock < until p d) (p .bookings)) where
+  pub oversold-added : NotOversold links (put-in b p) ↔ (NotOversold links p × Fits links p b)
+  oversold-added = (
+    (λ h. ((λ l m i. omega (arith, h l m i, taken-put-in p b l m)), λ l i m c s e. leaves l m i s e (h l m (all-at (λ k. k < length links) (path-inside (graph links) (b .grant .path) (right .path-right)) i)))),
+    λ h l m i. by h l m i (side m (p .clock)),
+  )
+    where
+      leaves : (l m : ℕ) → List·Memᴰ l (b .grant .path) → b .grant .start ≤ m → m < until p b → taken (put-in b p) l m ≤ capacity links l → b .terms .bandwidth ≤ free links p l m
+      leaves l m i s e h =
+          let held : uses p b l m ≡ b .terms .bandwidth = uses-within p b l m s e ∙ ap (λ t. if-so t (b .terms .bandwidth)) (member-tells l (b .grant .path) .1 i) in
+          omega (arith, taken-put-in p b l m)
+
+      since : NotOversold links p × Fits links p b → (l m : ℕ) → l < length links → p .clock ≤ m → taken (put-in b p) l m ≤ capacity links l
+      since h l m i c =
+          let least = uses-most p b l m (free links p l m) (λ s e t. h .1 l (member-tells l (b .grant .path) .0 t) m c s e) in
+          let most = h .0 l m i in
+          omega (arith, taken-put-in p b l m)
+
+      by : NotOversold links p × Fits links p b → (l m : ℕ) → l < length links → Side m (p .clock) → taken (put-in b p) l m ≤ capacity links l
+      by h l m i (above c) = since h l m i c
+      by h l m i (below c) = omega (arith, taken-past p (p .clock) (b ∷ p .bookings) (right .still-stands, stand) l m (omega arith), since h l (p .clock) i (omega arith))
+
+-- ---- as `add_booking` asks and gives it
+
+-- a booking that can be added to the right tables of p: they have room, and its figures are right
+pub record CanAdd (links : List Link) (p : Plain) (b : Place) : Type 0 where
+  pub few-links : length links ≤ most-links
+  pub room : length (p .bookings) < most-bookings
+  pub right : BookingRight links p (booking-of b)
+  pub count-right : b .count ≤ most-hops
+  pub path-sized : length (b .links) ≡ most-hops
+
+module _ (links : List Link) (p : Plain) (b : Place) (can : CanAdd links p b) where
+  pub add-place : PlaceRight b
+  add-place = record {
+    start-right = can .right .start-right;
+    duration-right = can .right .duration-right;
+    count-right = can .count-right;
+    path-sized = can .path-sized;
+    links-right = all-map (λ l. l < length links) (λ l. l < most-links) (λ l h. let few = can .few-links in omega arith) (path-of b) (path-inside (graph links) (path-of b) (can .right .path-right));
+  }
+
+  module _ (es t : List ℕ) (is-events : es ≡ event-table p) (is-free : t ≡ free-table links p) where
+    pub add-room : Room es t 2
+    add-room = rw (is-events, is-free) (room-left links p (booking-of b) (can .few-links) (can .room))
+
+    pub add-events : with-span (b .start .0) (release-of b) es ≡ event-table (put-in (booking-of b) p)
+    add-events = ap (with-span (b .start .0) (release-of b)) is-events ∙ events-added links p (booking-of b) (can .few-links) (can .room)
+
+    pub add-free : less-path (with-span (b .start .0) (release-of b) es) (b .start .0) (release-of b) (b .bandwidth .0) (path-of b) (with-span-rows most-links es (b .start .0) (release-of b) t)
+        ≡ free-table links (put-in (booking-of b) p)
+    add-free =
+        ap₂ (λ (es t : List ℕ). less-path (with-span (b .start .0) (release-of b) es) (b .start .0) (release-of b) (b .bandwidth .0) (path-of b) (with-span-rows most-links es (b .start .0) (release-of b) t)) is-events is-free
+        ∙ free-added links p (booking-of b) (can .few-links) (can .room) (can .right)
+
+    pub add-answer : Tells (enough-path (with-span (b .start .0) (release-of b) es) (b .start .0) (release-of b) (b .bandwidth .0) (path-of b) (with-span-rows most-links es (b .start .0) (release-of b) t)) (Fits links p (booking-of b))
+    add-answer = rw (is-events, is-free) (answer-added links p (booking-of b) (can .few-links) (can .room) (can .right))
