@@ -1,40 +1,44 @@
+-- `add_booking` meets its contract: the path is looked at and taken from on the tables with the two events.
+use mathlib.Core.Path.{_≡_, ap, ap₂, _∙_}
+use mathlib.Core.List.{List}
+use Prim.Native.Nat.{ℕ}
 use borrow.Author.Needs.{needs}
+use Rattle.units.specs.Limits.{most-links}
+use Rattle.timeline.specs.Insertion.{with-span, with-span-rows}
+use Rattle.desk_core.specs.Rebuilding.{path-of, release-of, less-path, enough-path}
 use Rattle.desk_core.proofs.rebuild.add_booking.Statement.{statement}
 use Rattle.desk_core.proofs.rebuild.add_booking.Tie as tie
-use Rattle.desk_core.proofs.rebuild.add_booking.Reads as reads
-use Rattle.desk_core.proofs.rebuild.add_booking.Lts as lts
-use Rattle.desk_core.proofs.rebuild.path_fits.Reads as path-fits-reads
-use Rattle.desk_core.proofs.rebuild.release_minute.Reads as release-minute-reads
-use Rattle.desk_core.proofs.rebuild.take_path.Reads as take-path-reads
-use Rattle.timeline.proofs.insert_span.Reads as insert-span-reads
 
--- src/rebuild.rt:68:40
 release-minute-requires : tie.Need-release-minute-requires
 release-minute-requires c κs = search needs
 
--- src/rebuild.rt:68:5
 insert-span-requires : tie.Need-insert-span-requires
 insert-span-requires c κs = search needs
 
--- src/rebuild.rt:69:9
 path-fits-requires : tie.Need-path-fits-requires
 path-fits-requires c κs = search needs
 
--- src/rebuild.rt:70:5
 take-path-requires : tie.Need-take-path-requires
 take-path-requires c κs = search needs
 
--- src/rebuild.rt:62:1
 same-length : tie.Need-same-length
 same-length c = search needs
 
--- src/rebuild.rt:62:1
 same-length-2 : tie.Need-same-length-2
 same-length-2 c = search needs
 
--- src/rebuild.rt:62:1
 returns : tie.Need-returns
-returns c = ?
+returns c =
+    let opened = c .before .before .before .before .before .before .before .before .before .before .before .before in
+    let a = opened .before .before .before .before .before .before .args in
+    let end = opened .before .release-minute .ensures in
+    let events-are = opened .insert-span .ensures .0 ∙ ap (λ e. with-span (a .b .start .0) e (a .events .now)) end in
+    let rows-are = opened .insert-span .ensures .1 ∙ ap (λ e. with-span-rows most-links (a .events .now) (a .b .start .0) e (a .free .now)) end in (
+      events-are,
+      c .before .before .take-path .ensures ∙ ap₂ (λ (es t : List ℕ). less-path es (a .b .start .0) (release-of (a .b)) (a .b .bandwidth .0) (path-of (a .b)) t) events-are rows-are,
+      c .before .before .before .before .before .path-fits .ensures
+          ∙ ap₂ (λ (es t : List ℕ). enough-path es (a .b .start .0) (release-of (a .b)) (a .b .bandwidth .0) (path-of (a .b)) t) events-are rows-are,
+    )
 
 pub add-booking-spec : {M : Type 1} → statement M
 add-booking-spec =
