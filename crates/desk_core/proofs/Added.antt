@@ -227,30 +227,32 @@ pub record CanAdd (links : List Link) (p : Plain) (b : Place) : Type 0 where
   pub room : length (p .bookings) < most-bookings
   pub right : BookingRight links p (booking-of b)
   pub count-right : b .count ≤ most-hops
-  pub path-sized : length (b .links) ≡ most-hops
+
+-- what it ensures of the tables that it was lent, as it leaves them, and of its answer
+abbrev pub Adds : Place → List ℕ → List ℕ → List ℕ → List ℕ → Bool → Type 0
+Adds b es t es' t' answer =
+    (es' ≡ with-span (b .start .0) (release-of b) es)
+    × (t' ≡ less-path (with-span (b .start .0) (release-of b) es) (b .start .0) (release-of b) (b .bandwidth .0) (path-of b) (with-span-rows most-links es (b .start .0) (release-of b) t))
+    × (answer ≡ enough-path (with-span (b .start .0) (release-of b) es) (b .start .0) (release-of b) (b .bandwidth .0) (path-of b) (with-span-rows most-links es (b .start .0) (release-of b) t))
+
+-- what that is on the right tables of p
+pub record Added (links : List Link) (p : Plain) (b : Booking) (es t : List ℕ) (answer : Bool) : Type 0 where
+  pub events-are : es ≡ event-table (put-in b p)
+  pub free-are : t ≡ free-table links (put-in b p)
+  pub answer-is : Tells answer (Fits links p b)
 
 module _ (links : List Link) (p : Plain) (b : Place) (can : CanAdd links p b) where
-  pub add-place : PlaceRight b
-  add-place = record {
+  pub place-right : PlaceRight b
+  place-right = record {
     start-right = can .right .start-right;
     duration-right = can .right .duration-right;
     count-right = can .count-right;
-    path-sized = can .path-sized;
     links-right = all-map (λ l. l < length links) (λ l. l < most-links) (λ l h. let few = can .few-links in omega arith) (path-of b) (path-inside (graph links) (path-of b) (can .right .path-right));
   }
 
-  module _ (es t : List ℕ) (is-events : es ≡ event-table p) (is-free : t ≡ free-table links p) where
-    pub add-room : Room es t 2
-    add-room = rw (is-events, is-free) (room-left links p (booking-of b) (can .few-links) (can .room))
-
-    pub add-events : with-span (b .start .0) (release-of b) es ≡ event-table (put-in (booking-of b) p)
-    add-events = ap (with-span (b .start .0) (release-of b)) is-events ∙ events-added links p (booking-of b) (can .few-links) (can .room)
-
-    pub add-free : less-path (with-span (b .start .0) (release-of b) es) (b .start .0) (release-of b) (b .bandwidth .0) (path-of b) (with-span-rows most-links es (b .start .0) (release-of b) t)
-        ≡ free-table links (put-in (booking-of b) p)
-    add-free =
-        ap₂ (λ (es t : List ℕ). less-path (with-span (b .start .0) (release-of b) es) (b .start .0) (release-of b) (b .bandwidth .0) (path-of b) (with-span-rows most-links es (b .start .0) (release-of b) t)) is-events is-free
-        ∙ free-added links p (booking-of b) (can .few-links) (can .room) (can .right)
-
-    pub add-answer : Tells (enough-path (with-span (b .start .0) (release-of b) es) (b .start .0) (release-of b) (b .bandwidth .0) (path-of b) (with-span-rows most-links es (b .start .0) (release-of b) t)) (Fits links p (booking-of b))
-    add-answer = rw (is-events, is-free) (answer-added links p (booking-of b) (can .few-links) (can .room) (can .right))
+  pub added : (es' t' : List ℕ) (answer : Bool) → Adds b (event-table p) (free-table links p) es' t' answer → Added links p (booking-of b) es' t' answer
+  added es' t' answer h = record {
+    events-are = h .0 ∙ events-added links p (booking-of b) (can .few-links) (can .room);
+    free-are = h .1 ∙ free-added links p (booking-of b) (can .few-links) (can .room) (can .right);
+    answer-is = rw (h .2) (answer-added links p (booking-of b) (can .few-links) (can .room) (can .right));
+  }

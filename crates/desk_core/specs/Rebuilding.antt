@@ -37,7 +37,6 @@ pub record PlaceRight (b : Place) : Type 0 where
   pub start-right : b .start .0 ≤ last-minute
   pub duration-right : Within 1 longest (b .duration .0)
   pub count-right : b .count ≤ most-hops
-  pub path-sized : length (b .links) ≡ most-hops
   pub links-right : All (λ l. l < most-links) (path-of b)
 
 -- the event table and the free table have document 01's sizes
