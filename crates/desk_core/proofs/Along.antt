@@ -5,13 +5,29 @@ use mathlib.Core.Bool.{Bool, true, false}
 use Prim.Native.Nat.{ℕ, zero, suc, _+_, _≤_, _<_}
 use native.Mathlib.Numerals.{add-one}
 use native.Mathlib.Omega.{arith}
-use lib.ListN.{length, getD, take, drop, drop-of-length-le}
+use lib.ListN.{length, getD, take, drop, length-map, drop-of-length-le}
 use lib.Seq.{drop-cons, getD-take, length-take-le}
+use mir.Val.{Val}
+use denote.Laws.{Is}
+use denote.Struct.Declared.{row}
+use Rattle.units.specs.Limits.{most-hops}
 use Rattle.units.specs.Lists.{all, All}
 use Rattle.free_table.specs.Taking.{less-span, enough-span}
+use Rattle.book.specs.declared.Booking.{Booking as Place}
+use Rattle.book.proofs.Booking.{the-type}
 use Rattle.desk_core.specs.Rebuilding.{less-path, enough-path}
 
+-- what holds of every entry holds of the one at place i
+pub all-place : {A : Type 0} (P : A → Type 0) (d : A) (xs : List A) (i : ℕ) → All P xs → i < length xs → P (getD xs i d)
+all-place P d [] i a h = absurd (omega arith)
+all-place P d (x ∷ xs) zero a h = a .0
+all-place P d (x ∷ xs) (suc i) a h = all-place P d xs i (a .1) (omega arith)
+
 -- ---- the links of a path of n places from place i on
+
+-- the type says that a place has 31 of them
+pub path-long : (b : Place) {vs : List Val} → Is (row the-type) b vs → length (b .links) ≡ most-hops
+path-long b g = sym (length-map (b .links) (λ l. l)) ∙ g .1 .1 .1 .1 .1 .1 .1 .0 .1 .0 .1
 
 module _ (links : List ℕ) (n i : ℕ) (inside : n ≤ length links) where
   pub links-left : i < n → drop i (take n links) ≡ getD links i 0 ∷ drop (i + 1) (take n links)
@@ -24,12 +40,7 @@ module _ (links : List ℕ) (n i : ℕ) (inside : n ≤ length links) where
 
   -- what holds of every link of the path holds of the one at place i
   pub all-along : (P : ℕ → Type 0) → All P (take n links) → i < n → P (getD links i 0)
-  all-along P a h = rw (getD-take n links i 0 h) at (all-place (take n links) i a (rw (length-take-le n links inside) h))
-    where
-      all-place : (xs : List ℕ) (i : ℕ) → All P xs → i < length xs → P (getD xs i 0)
-      all-place [] i a h = absurd (omega arith)
-      all-place (x ∷ xs) zero a h = a .0
-      all-place (x ∷ xs) (suc i) a h = all-place xs i (a .1) (omega arith)
+  all-along P a h = rw (getD-take n links i 0 h) at (all-place P 0 (take n links) i a (rw (length-take-le n links inside) h))
 
 -- ---- by what the first of them has
 

@@ -27,7 +27,7 @@ use Rattle.desk_core.specs.LinkTables.{links-of}
 use Rattle.desk_core.specs.Rebuilding.{PlaceRight, TablesSized, NotOversold, CanRebuild}
 use Rattle.desk_core.proofs.Obeys.{right-in}
 use Rattle.desk_core.proofs.LinkColumns.{links-count, capacity-column}
-use Rattle.desk_core.proofs.Added.{events-few, room-left, oversold-added, CanAdd, Adds, Added, place-right, added}
+use Rattle.desk_core.proofs.Added.{events-few, oversold-added, CanAdd, Adds, Added, add-asks, added}
 
 -- the tables of a plain book, and whether no link is oversold
 pub record Rebuilt (links : List Link) (p : Plain) (es t : List ℕ) (fits : Bool) : Type 0 where
@@ -51,7 +51,7 @@ module _ (links : List Link) (p : Plain) (small : length links ≤ most-links) (
 module _ (links : List Link) (p : Plain) (b : Place) (can : CanAdd links p b) {es t : List ℕ} {fits : Bool} (r : Rebuilt links p es t fits) where
   -- what `add_booking` asks
   rebuilt-asks : Room es t 2 × PlaceRight b
-  rebuilt-asks = (rw (r .events-are, r .free-are) (room-left links p (booking-of b) (can .few-links) (can .room)), place-right links p b can)
+  rebuilt-asks = rw (r .events-are, r .free-are) (add-asks links p b can)
 
   -- and what it gives, where all bookings stand
   rebuilt-gives : All (λ d. p .clock < until p d) (p .bookings) → (es' t' : List ℕ) (answer : Bool) → Adds b es t es' t' answer → Rebuilt links (put-in (booking-of b) p) es' t' (answer && fits)

@@ -3,12 +3,12 @@ use mathlib.Core.Path.{_≡_, refl, sym, ap, _∙_}
 use mathlib.Core.Bool.{true, false}
 use Prim.Native.Nat.{_+_, _-_, _≤_, _<_}
 use native.Mathlib.Omega.{arith}
-use lib.ListN.{length, getD, drop, length-map}
+use lib.ListN.{length, getD, drop}
 use borrow.Author.Tests.{not-true, not-false}
 use Rattle.free_table.specs.Taking.{enough-span}
-use Rattle.units.specs.Limits.{most-links, most-hops}
+use Rattle.units.specs.Limits.{most-links}
 use Rattle.desk_core.specs.Rebuilding.{path-of, release-of, enough-path}
-use Rattle.desk_core.proofs.Along.{links-left, none-left, all-along, enough-short, enough-next, enough-done}
+use Rattle.desk_core.proofs.Along.{path-long, links-left, none-left, all-along, enough-short, enough-next, enough-done}
 use Rattle.desk_core.proofs.rebuild.path_fits.Statement.{statement}
 use Rattle.desk_core.proofs.rebuild.path_fits.Tie as tie
 
@@ -18,10 +18,6 @@ Inv-loop events free b links count until i₀ i =
 
 abbrev μ-loop : tie.MeasureT-loop
 μ-loop events free b links count until i₀ i = count - i
-
--- the type says that a path has 31 places
-path-long : (s : tie.Start Inv-loop μ-loop) → length (s .args .b .links) ≡ most-hops
-path-long s = sym (length-map (s .args .b .links) (λ v. v)) ∙ s .good .1 .1 .0 .1 .1 .1 .1 .1 .1 .1 .0 .1 .0 .1
 
 cast-count : tie.Need-cast-count Inv-loop μ-loop
 cast-count c = let r = c .before .before .before .before .pre .1 in omega (arith, r .count-right)
@@ -47,7 +43,7 @@ has-bandwidth-requires c κs =
       record {
         events-sized = s .pre .0 .0;
         free-sized = s .pre .0 .1;
-        column = all-along (b .links) (b .count) (c .before .loop .i) (omega (arith, r .count-right, path-long s)) (λ l. l < most-links) (r .links-right) (c .loop-test .taken);
+        column = all-along (b .links) (b .count) (c .before .loop .i) (omega (arith, r .count-right, path-long (s .args .b) (s .good .1 .1 .0))) (λ l. l < most-links) (r .links-right) (c .loop-test .taken);
       },
       omega (arith, end, r .duration-right .0),
     )
@@ -71,7 +67,7 @@ returns c =
     let fails : c .before .has-bandwidth .result ≡ false = not-true (c .before .has-bandwidth .result) (c .if1 .taken) in
     sym
     (l .inv .1
-    ∙ ap (λ ls. enough-path (s .args .events .now) (b .start .0) (release-of b) (b .bandwidth .0) ls (s .args .free .now)) (links-left (b .links) (b .count) (l .i) (omega (arith, r .count-right, path-long s)) (omega arith))
+    ∙ ap (λ ls. enough-path (s .args .events .now) (b .start .0) (release-of b) (b .bandwidth .0) ls (s .args .free .now)) (links-left (b .links) (b .count) (l .i) (omega (arith, r .count-right, path-long (s .args .b) (s .good .1 .1 .0))) (omega arith))
     ∙ enough-short (s .args .events .now) (b .start .0) (release-of b) (b .bandwidth .0) _ _ (s .args .free .now) (sym (found (c .before)) ∙ fails))
 
 add-i : tie.Need-add-i Inv-loop μ-loop
@@ -89,7 +85,7 @@ loop-again c =
     let fits : c .before .has-bandwidth .result ≡ true = not-false (c .before .has-bandwidth .result) (c .if1 .left) in (
       omega arith,
       l .inv .1
-          ∙ ap (λ ls. enough-path (s .args .events .now) (b .start .0) (release-of b) (b .bandwidth .0) ls (s .args .free .now)) (links-left (b .links) (b .count) (l .i) (omega (arith, r .count-right, path-long s)) (omega arith))
+          ∙ ap (λ ls. enough-path (s .args .events .now) (b .start .0) (release-of b) (b .bandwidth .0) ls (s .args .free .now)) (links-left (b .links) (b .count) (l .i) (omega (arith, r .count-right, path-long (s .args .b) (s .good .1 .1 .0))) (omega arith))
           ∙ enough-next (s .args .events .now) (b .start .0) (release-of b) (b .bandwidth .0) _ _ (s .args .free .now) (sym (found (c .before)) ∙ fits),
     )
 
@@ -101,7 +97,7 @@ returns-2 c =
     let b = s .args .b in
     sym
     (l .inv .1
-    ∙ ap (λ ls. enough-path (s .args .events .now) (b .start .0) (release-of b) (b .bandwidth .0) ls (s .args .free .now)) (none-left (b .links) (b .count) (l .i) (omega (arith, r .count-right, path-long s)) (omega arith))
+    ∙ ap (λ ls. enough-path (s .args .events .now) (b .start .0) (release-of b) (b .bandwidth .0) ls (s .args .free .now)) (none-left (b .links) (b .count) (l .i) (omega (arith, r .count-right, path-long (s .args .b) (s .good .1 .1 .0))) (omega arith))
     ∙ enough-done (s .args .events .now) (b .start .0) (release-of b) (b .bandwidth .0) (s .args .free .now))
 
 pub path-fits-spec : {M : Type 1} → statement M

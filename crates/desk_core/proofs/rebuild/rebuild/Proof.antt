@@ -5,15 +5,14 @@ use mathlib.Core.List.{List}
 use mathlib.Core.Bool.{true, false, _&&_}
 use Prim.Native.Nat.{ℕ, _-_, _≤_, _<_}
 use native.Mathlib.Omega.{arith}
-use lib.ListN.{length, length-map}
+use lib.ListN.{length}
 use borrow.Author.Needs.{needs}
 use borrow.Author.Tests.{not-true, not-false}
-use Rattle.units.specs.Limits.{most-links, most-bookings, place-size}
 use Rattle.desk_core.specs.declared.LinkTable.{LinkTable}
 use Rattle.desk_core.specs.Tables.{plain-in}
 use Rattle.desk_core.specs.LinkTables.{links-of}
 use Rattle.desk_core.specs.Rebuilding.{TablesSized, CanRebuild}
-use Rattle.desk_core.proofs.Added.{Adds}
+use Rattle.desk_core.proofs.LinkColumns.{capacities-long}
 use Rattle.desk_core.proofs.Rebuilt.{Rebuilt, from-place, from-first, rebuilt-none, place-sizes, place-asks, place-gives}
 use Rattle.desk_core.proofs.rebuild.rebuild.Statement.{statement}
 use Rattle.desk_core.proofs.rebuild.rebuild.Tie as tie
@@ -27,17 +26,13 @@ Inv-loop book count events₀ free₀ fits₀ place₀ events free fits place =
 abbrev μ-loop : tie.MeasureT-loop
 μ-loop book count events₀ free₀ fits₀ place₀ events free fits place = place
 
--- the type says that there are 64 capacities
-columns-long : (s : tie.Start Inv-loop μ-loop) → length (s .args .t1 .capacity) ≡ most-links
-columns-long s = sym (length-map (s .args .t1 .capacity) (λ v. v)) ∙ s .good .0 .1 .1 .1 .1 .1 .0 .1 .0 .1
-
 reset-events-requires : tie.Need-reset-events-requires Inv-loop μ-loop
 reset-events-requires c κs = c .before .before .before .before .pre .events-sized
 
 reset-free-requires : tie.Need-reset-free-requires Inv-loop μ-loop
 reset-free-requires c κs =
     let s = c .before .before .before .before .before .before .before .before .before .before .before in
-    record { free-sized = s .pre .free-sized; given = omega (arith, columns-long s, s .pre .few-links); few = s .pre .few-links }
+    record { free-sized = s .pre .free-sized; given = omega (arith, capacities-long (s .args .t1) (s .good .0), s .pre .few-links); few = s .pre .few-links }
 
 loop-holds : tie.Need-loop-holds Inv-loop μ-loop
 loop-holds c = (omega arith, λ links clock es t can r. r)
@@ -51,7 +46,7 @@ at-place c =
     let s = reset .before .before .before .before .before .before .before .before .before .before .before .before in
     let a = s .args in
     c .loop .inv .1 (a .t1) (a .clock .0) (a .events .now) (a .free .now) (s .pre)
-    (rebuilt-none (a .t1) (a .clock .0) (a .book .now) (a .count) (s .pre .few-links) (omega (arith, columns-long s, s .pre .few-links)) _ _ (reset .before .before .before .before .before .before .before .reset-events .ensures) (reset .reset-free .ensures))
+    (rebuilt-none (a .t1) (a .clock .0) (a .book .now) (a .count) (s .pre .few-links) (omega (arith, capacities-long (s .args .t1) (s .good .0), s .pre .few-links)) _ _ (reset .before .before .before .before .before .before .before .reset-events .ensures) (reset .reset-free .ensures))
 
 sub-place : tie.Need-sub-place Inv-loop μ-loop
 sub-place c = omega arith

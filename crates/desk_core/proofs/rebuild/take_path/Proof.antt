@@ -2,12 +2,12 @@
 use mathlib.Core.Path.{_≡_, refl, sym, ap, ap₂, _∙_}
 use Prim.Native.Nat.{_+_, _-_, _≤_, _<_}
 use native.Mathlib.Omega.{arith}
-use lib.ListN.{length, getD, drop, length-map}
+use lib.ListN.{length, getD, drop}
 use borrow.Author.Needs.{needs}
 use Rattle.free_table.specs.Taking.{less-span}
-use Rattle.units.specs.Limits.{most-links, most-hops}
+use Rattle.units.specs.Limits.{most-links}
 use Rattle.desk_core.specs.Rebuilding.{path-of, release-of, less-path}
-use Rattle.desk_core.proofs.Along.{links-left, none-left, all-along, less-next, less-done}
+use Rattle.desk_core.proofs.Along.{path-long, links-left, none-left, all-along, less-next, less-done}
 use Rattle.desk_core.proofs.rebuild.take_path.Statement.{statement}
 use Rattle.desk_core.proofs.rebuild.take_path.Tie as tie
 
@@ -19,10 +19,6 @@ Inv-loop events free₀ b links count until i₀ free i =
 
 abbrev μ-loop : tie.MeasureT-loop
 μ-loop events free₀ b links count until i₀ free i = count - i
-
--- the type says that a path has 31 places
-path-long : (s : tie.Start Inv-loop μ-loop) → length (s .args .b .links) ≡ most-hops
-path-long s = sym (length-map (s .args .b .links) (λ v. v)) ∙ s .good .1 .1 .0 .1 .1 .1 .1 .1 .1 .1 .0 .1 .0 .1
 
 cast-count : tie.Need-cast-count Inv-loop μ-loop
 cast-count c = let r = c .before .before .before .before .pre .1 in omega (arith, r .count-right)
@@ -48,7 +44,7 @@ take-bandwidth-requires c κs =
       record {
         events-sized = s .pre .0 .0;
         free-sized = c .before .before .loop .inv .1 .0 ∙ s .pre .0 .1;
-        column = all-along (b .links) (b .count) (c .before .before .loop .i) (omega (arith, r .count-right, path-long s)) (λ l. l < most-links) (r .links-right) (omega arith);
+        column = all-along (b .links) (b .count) (c .before .before .loop .i) (omega (arith, r .count-right, path-long (s .args .b) (s .good .1 .1 .0))) (λ l. l < most-links) (r .links-right) (omega arith);
       },
       omega (arith, end),
     )
@@ -71,7 +67,7 @@ loop-again c =
       (
         t .kept .1 .0 ∙ l .inv .1 .0,
         l .inv .1 .1
-            ∙ ap (λ ls. less-path (s .args .events .now) (b .start .0) (release-of b) (b .bandwidth .0) ls (l .free)) (links-left (b .links) (b .count) (l .i) (omega (arith, r .count-right, path-long s)) (omega arith))
+            ∙ ap (λ ls. less-path (s .args .events .now) (b .start .0) (release-of b) (b .bandwidth .0) ls (l .free)) (links-left (b .links) (b .count) (l .i) (omega (arith, r .count-right, path-long (s .args .b) (s .good .1 .1 .0))) (omega arith))
             ∙ less-next (s .args .events .now) (b .start .0) (release-of b) (b .bandwidth .0) _ _ (l .free)
             ∙ ap (less-path (s .args .events .now) (b .start .0) (release-of b) (b .bandwidth .0) _) (sym (t .ensures .0 ∙ ap (λ e. less-span (s .args .events .now) (b .start .0) e (getD (b .links) (l .i) 0) (b .bandwidth .0) (l .free)) end)),
       ),
@@ -88,7 +84,7 @@ returns c =
     let b = s .args .b in
     sym
     (l .inv .1 .1
-    ∙ ap (λ ls. less-path (s .args .events .now) (b .start .0) (release-of b) (b .bandwidth .0) ls (l .free)) (none-left (b .links) (b .count) (l .i) (omega (arith, r .count-right, path-long s)) (omega arith))
+    ∙ ap (λ ls. less-path (s .args .events .now) (b .start .0) (release-of b) (b .bandwidth .0) ls (l .free)) (none-left (b .links) (b .count) (l .i) (omega (arith, r .count-right, path-long (s .args .b) (s .good .1 .1 .0))) (omega arith))
     ∙ less-done (s .args .events .now) (b .start .0) (release-of b) (b .bandwidth .0) (l .free))
 
 pub take-path-spec : {M : Type 1} → statement M
