@@ -23,14 +23,14 @@ use Rattle.timeline.proofs.Events.{later-length}
 use Rattle.timeline.proofs.Steady.{ChangesAt}
 use Rattle.timeline.proofs.Inserted.{with-span-events, changes-more, room-of-events}
 use Rattle.free_table.specs.Figures.{table}
-use Rattle.free_table.specs.Taking.{less, less-span, enough-span}
+use Rattle.free_table.specs.Taking.{less, enough-span}
 use Rattle.free_table.proofs.Figures.{length-table}
 use Rattle.free_table.proofs.Tables.{table-with-span}
 use Rattle.free_table.proofs.Taken.{less-span-table}
 use Rattle.free_table.proofs.SpanCheck.{enough-span-early, enough-span-table}
-use Rattle.path_search.specs.Paths.{Graph, Leads, nodes, PathRight}
+use Rattle.path_search.specs.Paths.{Graph, Leads, PathRight}
 use Rattle.book.specs.declared.Booking.{Booking as Place}
-use Rattle.desk_core.specs.Plain.{Booking, Plain, until, uses, times, taken, capacity, graph, free, with-book}
+use Rattle.desk_core.specs.Plain.{Booking, Plain, until, uses, times, taken, capacity, graph, free}
 use Rattle.desk_core.specs.Calls.{put-in}
 use Rattle.desk_core.specs.Tables.{events-of, event-table, free-table, booking-of}
 use Rattle.desk_core.specs.Sound.{BookingRight}

@@ -6,7 +6,7 @@ use native.Mathlib.Omega.{arith}
 use lib.ListN.{length}
 use Rattle.units.specs.Limits.{most-links, most-hops, most-events, place-size}
 use Rattle.units.specs.Lists.{Within, All}
-use Rattle.units.proofs.Permuted.{length-permuted, all-permuted}
+use Rattle.units.proofs.Permuted.{length-permuted}
 use Rattle.units.proofs.Padded.{rows-at}
 use Rattle.book.specs.Places.{booking-in}
 use Rattle.desk_core.specs.declared.LinkTable.{LinkTable}

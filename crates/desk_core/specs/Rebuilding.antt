@@ -2,7 +2,7 @@
 use mathlib.Core.Path.{_≡_}
 use mathlib.Core.List.{List, [], _∷_}
 use mathlib.Core.Bool.{Bool}
-use Prim.Native.Nat.{ℕ, _+_, _*_, _≤_, _<_}
+use Prim.Native.Nat.{ℕ, _*_, _≤_, _<_}
 use lib.ListN.{length, take}
 use Rattle.units.specs.declared.Link.{Link}
 use Rattle.units.specs.Limits.{most-links, most-hops, most-bookings, most-events, place-size, last-minute, longest}
