@@ -17,7 +17,7 @@ use Rattle.timeline.proofs.Steady.{ChangesAt}
 use Rattle.timeline.proofs.Rows.{row-later}
 use Rattle.timeline.proofs.Places.{event, row-of, row-below, row-early, rows-span, span-in-rows}
 use Rattle.free_table.specs.Figures.{table}
-use Rattle.free_table.specs.Taking.{enough-rows, enough-span}
+use Rattle.free_table.specs.Looking.{enough-rows, enough-span}
 use Rattle.free_table.proofs.Figures.{table-figure}
 
 -- two tests that pass together are the same

@@ -11,8 +11,9 @@ ghost use Prim.Native.Nat.{_-_, _*_, _≤_, _<_};
 ghost use lib.ListN.{take};
 ghost use Rattle.units.specs.Limits.{most-links};
 ghost use Rattle.timeline.specs.Events.{row-at};
-ghost use Rattle.free_table.specs.Figures.{kept};
-ghost use Rattle.free_table.specs.Taking.{all-free, less-rows, less-span, enough-rows, enough-span, Sized, Capacities, WholeRows};
+ghost use Rattle.free_table.specs.Figures.{kept, all-free, Capacities};
+ghost use Rattle.free_table.specs.Taking.{less-rows, less-span, Sized, WholeRows};
+ghost use Rattle.free_table.specs.Looking.{enough-rows, enough-span};
 
 // The free table of a desk without bookings: the capacities of its links at the one event, the clock.
 #[no_mangle]
