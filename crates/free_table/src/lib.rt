@@ -91,7 +91,7 @@ pub extern "C" fn take_bandwidth(
 }
 
 // Whether one link has the bandwidth in each of the first `rows` rows of the part.
-fn enough(part: &[u32], rows: usize, link: LinkNumber, bandwidth: Bandwidth) -> bool
+pub fn enough(part: &[u32], rows: usize, link: LinkNumber, bandwidth: Bandwidth) -> bool
     requires { ⌜ WholeRows (now part) rows (link .0) ⌝ }
     ensures { λ r. ⌜ r ≡ enough-rows rows (link .0) (bandwidth .0) (now (part .entry)) ⌝ }
 {
