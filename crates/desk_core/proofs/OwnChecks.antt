@@ -4,20 +4,21 @@ use mathlib.Core.List.{List, [], _∷_, map}
 use mathlib.Core.Bool.{Bool, true, false, not, _&&_, _||_}
 use Prim.Native.Nat.{ℕ, zero, suc, _≤_, _<_}
 use lib.Dec.{leb, eqb, ltb}
-use borrow.Author.Tests.{eq-eqb, ne-eqb, eqb-true, eqb-false, lt-ltb, le-ltb}
+use borrow.Author.Tests.{eq-eqb, ne-eqb, eqb-true, eqb-false, lt-ltb, le-ltb, lt-leb, le-leb}
 use native.Mathlib.Omega.{arith}
 use lib.ListN.{length, length-map}
 use Rattle.units.specs.declared.Request.{Request}
-use Rattle.units.specs.Limits.{most-bookings}
-use Rattle.units.specs.Lists.{member, count-from}
+use Rattle.units.specs.declared.Link.{Link}
+use Rattle.units.specs.Limits.{most-bookings, last-minute, last-shown}
+use Rattle.units.specs.Lists.{within, member, count-from}
 use Rattle.units.specs.Search.{Found, at, nothing, firstFrom}
-use Rattle.units.proofs.Search.{first-here, first-after}
+use Rattle.units.proofs.Search.{first-here, first-after, firstFrom-found}
 use Rattle.units.proofs.Padded.{length-count}
 use Rattle.book.specs.declared.Standing.{Standing}
 use Rattle.book.specs.declared.Standing.the-variants.{At, Nowhere}
 use Rattle.book.specs.Places.{number-at, find, standing}
 use Rattle.desk_core.specs.Calls.{Ask, Check, check, checked, first-refusal, stands, number-ok, request-ok, own-checks}
-use Rattle.desk_core.specs.Plain.{low}
+use Rattle.desk_core.specs.Plain.{Plain, low}
 use Rattle.desk_core.specs.Tables.{booking-at, plain-in}
 
 -- a number in range: where an offer is stopped, so is the booking, by the same number
@@ -98,3 +99,56 @@ module _ (clock : ℕ) (places : List ℕ) (n number : ℕ) (request : Request) 
     pub booking-passes : stands number (plain-in clock places n .bookings) ≡ false → n < most-bookings → as-booking ≡ 0
     unfolding checked
     booking-passes e h = rw in-range (left-to-book (request-ok request) in-window behind passes ∙ rw (e, count-read clock places n, lt-ltb n most-bookings h))
+
+-- which check stops a cancellation, a clock move and a showing
+module _ (links : List Link) (p : Plain) where
+  pub cancel-4 : (n : ℕ) → number-ok n ≡ false → first-refusal (own-checks links p (Ask.cancel n)) ≡ 4
+  unfolding checked
+  cancel-4 n e = rw e
+
+  pub cancel-9 : (n : ℕ) → number-ok n ≡ true → stands n (p .bookings) ≡ false → first-refusal (own-checks links p (Ask.cancel n)) ≡ 9
+  unfolding checked
+  cancel-9 n e s = rw (e, s)
+
+  pub cancel-0 : (n : ℕ) → number-ok n ≡ true → stands n (p .bookings) ≡ true → first-refusal (own-checks links p (Ask.cancel n)) ≡ 0
+  unfolding checked
+  cancel-0 n e s = rw (e, s)
+
+  pub move-4 : (m : ℕ) → last-minute < m → first-refusal (own-checks links p (Ask.move-clock m)) ≡ 4
+  unfolding checked
+  move-4 m h = rw (lt-leb m last-minute h)
+
+  pub move-10 : (m : ℕ) → m ≤ last-minute → m < p .clock → first-refusal (own-checks links p (Ask.move-clock m)) ≡ 10
+  unfolding checked
+  move-10 m h k = rw (le-leb m last-minute h, lt-leb (p .clock) m k)
+
+  pub move-0 : (m : ℕ) → m ≤ last-minute → p .clock ≤ m → first-refusal (own-checks links p (Ask.move-clock m)) ≡ 0
+  unfolding checked
+  move-0 m h k = rw (le-leb m last-minute h, le-leb (p .clock) m k)
+
+  pub show-4-link : (l m : ℕ) → length links ≤ l → first-refusal (own-checks links p (Ask.show l m)) ≡ 4
+  unfolding checked
+  show-4-link l m h = rw (le-ltb l (length links) h)
+
+  pub show-4-minute : (l m : ℕ) → l < length links → within (p .clock) last-shown m ≡ false → first-refusal (own-checks links p (Ask.show l m)) ≡ 4
+  unfolding checked
+  show-4-minute l m h e = rw (lt-ltb l (length links) h, e)
+
+  pub show-0 : (l m : ℕ) → l < length links → within (p .clock) last-shown m ≡ true → first-refusal (own-checks links p (Ask.show l m)) ≡ 0
+  unfolding checked
+  show-0 l m h e = rw (lt-ltb l (length links) h, e)
+
+-- a number that is found stands at that place
+pub found-at : (places : List ℕ) (n x i : ℕ) → find x places n ≡ At i → (i < n) × (number-at places i ≡ x)
+unfolding find
+found-at places n x i e = by (firstFrom 0 n (λ k. eqb (number-at places k) x)) refl e
+  where
+    test : ℕ → Bool
+    test k = eqb (number-at places k) x
+
+    by : (f : Found) → firstFrom 0 n test ≡ f → standing f ≡ At i → (i < n) × (number-at places i ≡ x)
+    by (at j) q s =
+        let h = firstFrom-found test 0 n q in
+        let same : j ≡ i = cc in
+        (omega (arith, h .high, same), eqb-true (number-at places i) x (rw same at (h .passes)))
+    by nothing q s = absurd (let z : _≡_ {A = ℕ} 0 1 = cc in omega arith)
