@@ -84,6 +84,9 @@ module _ (b : Place) (sized : length (b .links) ≡ most-hops) where
         λ e. t .1 (few e, rest-zero e),
       )
 
+  pub tidy-few : tidy b ≡ true → b .count ≤ most-hops
+  tidy-few e = few (tidy-tells .0 e)
+
 -- ---- the places of a book
 
 figure-next : (l : List ℕ) (at k : ℕ) → at + k < length l → drop (at + k) l ≡ getD l (at + k) 0 ∷ drop (at + suc k) l
