@@ -19,7 +19,7 @@ use Rattle.desk_core.specs.Plain.{link, graph}
 use Rattle.desk_core.specs.LinkTables.{links-of}
 use Rattle.desk_core.specs.Checking.{LinksRight}
 use Rattle.desk_core.proofs.Tests.{links-tell, nodes-below}
-use Rattle.desk_core.proofs.LinkColumns.{length-links, link-is}
+use Rattle.desk_core.proofs.LinkColumns.{links-count, from-column, to-column}
 
 -- ---- the nodes met
 
@@ -57,40 +57,34 @@ pub path-rest : (links : List ℕ) (count i : ℕ) → i < count → count ≤ l
 path-rest links count i h k = rw add-one (drop-cons (take count links) i 0 (rw length-take-le h) ∙ ap (λ l. l ∷ drop (suc i) (take count links)) (getD-take count links i 0 h))
 
 module _ (t : LinkTable) (l : ℕ) where
-  pub from-is : l < t .count → link (links-of t) l .from ≡ getD (t .from) l 0
-  from-is h = ap (λ x. x .from) (link-is t l h)
-
-  pub to-is : l < t .count → link (links-of t) l .to ≡ getD (t .to) l 0
-  to-is h = ap (λ x. x .to) (link-is t l h)
-
   pub from-node : LinksRight t → l < t .count → getD (t .from) l 0 ≤ last-node
-  from-node r h = omega (arith, from-is h, nodes-below (links-of t) (links-tell (links-of t) .0 (r .all-ok)) .from-below l (rw length-links h))
+  from-node r h = omega (arith, from-column t l h, nodes-below (links-of t) (links-tell (links-of t) .0 (r .all-ok)) .from-below l (rw links-count h))
 
   pub to-node : LinksRight t → l < t .count → getD (t .to) l 0 ≤ last-node
-  to-node r h = omega (arith, to-is h, nodes-below (links-of t) (links-tell (links-of t) .0 (r .all-ok)) .to-below l (rw length-links h))
+  to-node r h = omega (arith, to-column t l h, nodes-below (links-of t) (links-tell (links-of t) .0 (r .all-ok)) .to-below l (rw links-count h))
 
   module _ (v : ℕ) (met ls : List ℕ) where
     pub going-past : t .count ≤ l → goes-on (graph (links-of t)) v met (l ∷ ls) ≡ false
     unfolding goes-on
-    going-past h = simp (le-ltb l (length (links-of t)) (rw length-links h))
+    going-past h = simp (le-ltb l (length (links-of t)) (rw links-count h))
 
     module _ (known : l < t .count) where
       known-test : ltb l (length (links-of t)) ≡ true
-      known-test = lt-ltb l (length (links-of t)) (rw length-links known)
+      known-test = lt-ltb l (length (links-of t)) (rw links-count known)
 
       pub going-elsewhere : (getD (t .from) l 0 ≡ v → ⊥) → goes-on (graph (links-of t)) v met (l ∷ ls) ≡ false
       unfolding goes-on
-      going-elsewhere d = simp (known-test, ne-eqb (link (links-of t) l .from) v (rw (from-is known) d))
+      going-elsewhere d = simp (known-test, ne-eqb (link (links-of t) l .from) v (rw (from-column t l known) d))
 
       module _ (begins : getD (t .from) l 0 ≡ v) where
         begins-test : eqb (link (links-of t) l .from) v ≡ true
-        begins-test = eq-eqb (link (links-of t) l .from) v (from-is known ∙ begins)
+        begins-test = eq-eqb (link (links-of t) l .from) v (from-column t l known ∙ begins)
 
         pub going-again : member (getD (t .to) l 0) met ≡ true → goes-on (graph (links-of t)) v met (l ∷ ls) ≡ false
         unfolding goes-on
-        going-again e = simp (known-test, begins-test, ap (λ n. member n met) (to-is known) ∙ e)
+        going-again e = simp (known-test, begins-test, ap (λ n. member n met) (to-column t l known) ∙ e)
 
         pub going-on : member (getD (t .to) l 0) met ≡ false
             → goes-on (graph (links-of t)) v met (l ∷ ls) ≡ goes-on (graph (links-of t)) (getD (t .to) l 0) (getD (t .to) l 0 ∷ met) ls
         unfolding goes-on
-        going-on e = simp (known-test, begins-test, to-is known, e)
+        going-on e = simp (known-test, begins-test, to-column t l known, e)

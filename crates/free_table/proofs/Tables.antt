@@ -1,7 +1,7 @@
 -- The table of any figure function that changes only at the times: with one event more, with the two of a span, and of
 -- a desk without bookings.
 use mathlib.Core.Path.{_≡_, refl, sym, ap, ap₂, _∙_}
-use mathlib.Core.List.{List, [], _∷_, _++_, map, flatten, append-nil, append-assoc}
+use mathlib.Core.List.{List, [], _∷_, _++_, map, flatten, append-nil, append-assoc, List·Memᴰ, List·Memᴰ·head, List·Memᴰ·tail}
 use Prim.Native.Nat.{ℕ, _+_, _-_, _*_, _≤_, _<_}
 use native.Mathlib.Omega.{arith}
 use lib.ListN.{length, getD, take, replicate, length-map, length-append, length-replicate, replicate-append-replicate}
@@ -28,6 +28,14 @@ module _ (links : ℕ) (f : ℕ → ℕ → ℕ) (small : links ≤ most-links) 
   pub table-with-span : (start end : ℕ) → length (events c (start ∷ end ∷ ts)) ≤ most-events
       → with-span-rows most-links (padded most-events (events c ts)) start end (table links f (events c ts)) ≡ table links f (events c (start ∷ end ∷ ts))
   table-with-span start end few = with-span-rows-rows c start end ts most-events few (row links f) most-links (length-row links f small) row-changes
+
+-- figures that agree at the events have the same table
+pub table-same : (links : ℕ) (f g : ℕ → ℕ → ℕ) (es : List ℕ) → ((l e : ℕ) → l < links → List·Memᴰ e es → f l e ≡ g l e) → table links f es ≡ table links g es
+table-same links f g es h = ap (λ (rows : List (List ℕ)). padded (most-events * most-links) (flatten rows)) (by es h)
+  where
+    by : (es : List ℕ) → ((l e : ℕ) → l < links → List·Memᴰ e es → f l e ≡ g l e) → map (row links f) es ≡ map (row links g) es
+    by [] h = refl
+    by (e ∷ es) h = ap₂ _∷_ (row-same links f g e e (λ l b. h l e b (List·Memᴰ·head refl))) (by es (λ l x b i. h l x b (List·Memᴰ·tail i)))
 
 -- ---- no bookings
 

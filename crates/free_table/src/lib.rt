@@ -8,16 +8,16 @@ use units::Minute;
 use units::ROW;
 ghost use mathlib.Core.Path.{_≡_};
 ghost use Prim.Native.Nat.{_-_, _*_, _≤_, _<_};
-ghost use lib.ListN.{length, take};
-ghost use Rattle.units.specs.Limits.{most-links, most-events};
+ghost use lib.ListN.{take};
+ghost use Rattle.units.specs.Limits.{most-links};
 ghost use Rattle.timeline.specs.Events.{row-at};
 ghost use Rattle.free_table.specs.Figures.{kept};
-ghost use Rattle.free_table.specs.Taking.{all-free, less-rows, less-span, enough-rows, enough-span, Sized};
+ghost use Rattle.free_table.specs.Taking.{all-free, less-rows, less-span, enough-rows, enough-span, Sized, Capacities, WholeRows};
 
 // The free table of a desk without bookings: the capacities of its links at the one event, the clock.
 #[no_mangle]
 pub extern "C" fn reset_free(free: &mut [u32], capacities: &[u32], links: usize)
-    requires { ⌜ (length (now free) ≡ most-events * most-links) × ((links ≤ length (now capacities)) × (links ≤ most-links)) ⌝ }
+    requires { ⌜ Capacities (now free) (now capacities) links ⌝ }
     ensures { λ _. ⌜ now (free .exit) ≡ all-free links (now (capacities .entry)) ⌝ }
 {
     let mut link = 0;
@@ -57,7 +57,7 @@ fn less(figure: u32, bandwidth: Bandwidth) -> u32
 // Takes bandwidth from one link in the first `rows` rows of the part. The part starts at the row of the start, so
 // nothing before it can change.
 fn subtract(part: &mut [u32], rows: usize, link: LinkNumber, bandwidth: Bandwidth)
-    requires { ⌜ (rows * most-links ≤ length (now part)) × (link .0 < most-links) ⌝ }
+    requires { ⌜ WholeRows (now part) rows (link .0) ⌝ }
     ensures { λ _. ⌜ now (part .exit) ≡ less-rows rows (link .0) (bandwidth .0) (now (part .entry)) ⌝ }
 {
     let column = link.0 as usize;
@@ -69,7 +69,7 @@ fn subtract(part: &mut [u32], rows: usize, link: LinkNumber, bandwidth: Bandwidt
     }
 }
 
-// Takes bandwidth from one link in minutes start to end - 1, both of which are events or not later than the clock.
+// Takes bandwidth from one link in minutes start to end - 1, where start and end are events or not later than the clock.
 #[no_mangle]
 pub extern "C" fn take_bandwidth(
     events: &[u32],
@@ -91,16 +91,16 @@ pub extern "C" fn take_bandwidth(
 
 // Whether one link has the bandwidth in each of the first `rows` rows of the part.
 fn enough(part: &[u32], rows: usize, link: LinkNumber, bandwidth: Bandwidth) -> bool
-    requires { ⌜ (rows * most-links ≤ length (now part)) × (link .0 < most-links) ⌝ }
+    requires { ⌜ WholeRows (now part) rows (link .0) ⌝ }
     ensures { λ r. ⌜ r ≡ enough-rows rows (link .0) (bandwidth .0) (now (part .entry)) ⌝ }
 {
     let column = link.0 as usize;
-    let mut row = 0;
-    while row < rows {
-        if part[row * ROW + column] < bandwidth.0 {
+    let mut next = 0;
+    while next < rows {
+        if part[next * ROW + column] < bandwidth.0 {
             return false;
         }
-        row += 1;
+        next += 1;
     }
     true
 }

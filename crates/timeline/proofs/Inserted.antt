@@ -1,23 +1,23 @@
 -- Putting an event in makes the event table of one time more, and the rows of any function of the minute that is steady
 -- between the events become its rows over the larger event list.
-use mathlib.Core.Path.{_≡_, refl, sym, ap, ap₂, _∙_, subst}
+use mathlib.Core.Path.{_≡_, refl, sym, ap, ap₂, _∙_}
 use mathlib.Core.Logic.{⊎-elim}
-use mathlib.Core.List.{List, [], _∷_, _++_, map, flatten, append-assoc, List·Memᴰ, List·Memᴰ·head, List·Memᴰ·tail, List·Memᴰ·cases-cons, Memᴰ·cast}
+use mathlib.Core.List.{List, [], _∷_, _++_, map, flatten, append-assoc, List·Memᴰ·tail, List·Memᴰ·cases-cons, Memᴰ·cast}
 use mathlib.Core.Bool.{Bool, true, false}
 use Prim.Native.Nat.{ℕ, zero, suc, _+_, _-_, _*_, _≤_, _<_}
 use native.Mathlib.Nat.{le-refl, mul-le-mul-right}
 use native.Mathlib.Omega.{arith}
-use lib.Dec.{leb, ltb}
-use lib.ListN.{length, getD, take, drop, replicate, take-append-drop, length-drop, length-append}
+use lib.Dec.{ltb}
+use lib.ListN.{length, getD, take, drop, replicate, take-append-drop, length-append}
 use lib.Seq.{take-at, drop-append-add, length-take-le}
 use Rattle.units.specs.Limits.{most-links, most-events}
 use Rattle.units.specs.Lists.{padded, member}
 use Rattle.units.proofs.Tests.{member-tells, absent, Rising, Side, below, above, side}
 use Rattle.units.proofs.Padded.{length-padded, padded-at, padded-insert, rows, length-rows, all-rows, rows-insert}
-use Rattle.timeline.specs.Events.{insert-rising, later, events, further, passed, row-at}
+use Rattle.timeline.specs.Events.{later, events, further, row-at}
 use Rattle.timeline.specs.Insertion.{count-events, filled, put-in, with-event, with-row, with-span, with-span-rows, only-clock, Room}
 use Rattle.timeline.proofs.Events.{later-skips, later-inserts, later-rises, later-again, member-later, slot, insert-split}
-use Rattle.timeline.proofs.Steady.{NoneBetween, ChangesAt, last-event, none-between, steady, last-event-is, last-event-le, last-event-ge, event-found}
+use Rattle.timeline.proofs.Steady.{ChangesAt, last-event, none-between, steady, last-event-is, last-event-le, last-event-ge, event-found}
 use Rattle.timeline.proofs.Rows.{passed-slot, passed-padded}
 use Rattle.timeline.proofs.Insertion.{with-event-there, with-row-there, with-event-new, with-row-new}
 

@@ -1,14 +1,14 @@
 -- An event put in, as the code does it on lists: what stays, what moves, and how much room it takes.
-use mathlib.Core.Path.{_≡_, refl, sym, ap, ap₂, _∙_}
+use mathlib.Core.Path.{_≡_, refl, sym, ap, _∙_}
 use mathlib.Core.List.{List, [], _∷_, _++_}
 use mathlib.Core.Bool.{Bool, true, false}
 use Prim.Native.Nat.{ℕ, zero, suc, _+_, _-_, _*_, _≤_, _<_}
 use native.Mathlib.Numerals.{add-one}
 use native.Mathlib.Omega.{arith}
-use lib.Dec.{leb, ltb}
+use lib.Dec.{leb}
 use lib.ListN.{length, getD, take, drop, length-append, length-take, length-drop}
 use borrow.Author.Tests.{lt-ltb, le-ltb, ltb-true}
-use Rattle.units.specs.Limits.{most-links, most-events}
+use Rattle.units.specs.Limits.{most-events}
 use Rattle.timeline.specs.Events.{further, passed, row-at}
 use Rattle.timeline.specs.Insertion.{filled, count-events, put-in, missing, if-missing, with-event, with-row, Room}
 use Rattle.timeline.proofs.Pieces.{put-in-part}

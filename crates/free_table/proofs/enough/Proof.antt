@@ -1,6 +1,6 @@
--- `enough` meets its contract. The rows below `row` have the bandwidth, so the answer lies in those from it on.
+-- `enough` meets its contract. The rows below `next` have the bandwidth, so the answer lies in those from it on.
 use mathlib.Core.Path.{_≡_, sym, _∙_}
-use Prim.Native.Nat.{_-_, _*_, _≤_}
+use Prim.Native.Nat.{_-_, _≤_}
 use native.Mathlib.Omega.{arith}
 use Rattle.free_table.specs.Taking.{enough-rows}
 use Rattle.free_table.proofs.Steps.{enough-from, enough-all, enough-short, enough-next, enough-done}
@@ -8,10 +8,10 @@ use Rattle.free_table.proofs.enough.Statement.{statement}
 use Rattle.free_table.proofs.enough.Tie as tie
 
 abbrev Inv-loop : tie.InvT-loop
-Inv-loop part rows bandwidth column row₀ row = (row ≤ rows) × (enough-rows rows column (bandwidth .0) part ≡ enough-from row rows column (bandwidth .0) part)
+Inv-loop part rows bandwidth column next₀ next = (next ≤ rows) × (enough-rows rows column (bandwidth .0) part ≡ enough-from next rows column (bandwidth .0) part)
 
 abbrev μ-loop : tie.MeasureT-loop
-μ-loop part rows bandwidth column row₀ row = rows - row
+μ-loop part rows bandwidth column next₀ next = rows - next
 
 cast-column : tie.Need-cast-column Inv-loop μ-loop
 cast-column c = omega arith
@@ -35,10 +35,10 @@ returns : tie.Need-returns Inv-loop μ-loop
 returns c =
     let l = c .before .before .before .before .loop in
     let a = c .before .before .before .before .before .before .args in
-    sym (l .inv .1 ∙ enough-short (a .rows) (a .link .0) (a .bandwidth .0) (a .part .now) (l .row) (omega arith) (c .if1 .taken))
+    sym (l .inv .1 ∙ enough-short (a .rows) (a .link .0) (a .bandwidth .0) (a .part .now) (l .next) (omega arith) (c .if1 .taken))
 
-add-row : tie.Need-add-row Inv-loop μ-loop
-add-row c = omega arith
+add-next : tie.Need-add-next Inv-loop μ-loop
+add-next c = omega arith
 
 loop-less : tie.Need-loop-less Inv-loop μ-loop
 loop-less c = omega arith
@@ -47,13 +47,13 @@ loop-again : tie.Need-loop-again Inv-loop μ-loop
 loop-again c =
     let l = c .before .before .before .before .loop in
     let a = c .before .before .before .before .before .before .args in
-    (omega arith, l .inv .1 ∙ enough-next (a .rows) (a .link .0) (a .bandwidth .0) (a .part .now) (l .row) (omega arith) (c .if1 .left))
+    (omega arith, l .inv .1 ∙ enough-next (a .rows) (a .link .0) (a .bandwidth .0) (a .part .now) (l .next) (omega arith) (c .if1 .left))
 
 returns-2 : tie.Need-returns-2 Inv-loop μ-loop
 returns-2 c =
     let l = c .before .loop in
     let a = c .before .before .before .args in
-    sym (l .inv .1 ∙ enough-done (a .rows) (a .link .0) (a .bandwidth .0) (a .part .now) (l .row) (omega arith))
+    sym (l .inv .1 ∙ enough-done (a .rows) (a .link .0) (a .bandwidth .0) (a .part .now) (l .next) (omega arith))
 
 pub enough-spec : {M : Type 1} → statement M
 enough-spec =
@@ -68,7 +68,7 @@ enough-spec =
     mul-if1-2
     shared-slice-read-if1
     returns
-    add-row
+    add-next
     loop-less
     loop-again
     returns-2)

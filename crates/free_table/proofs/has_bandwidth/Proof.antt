@@ -1,9 +1,9 @@
 -- `has_bandwidth` meets its contract: the rows looked at are those from the row of the start to that of the last minute.
-use mathlib.Core.Path.{_≡_, ap, ap₂, _∙_}
+use mathlib.Core.Path.{ap₂, _∙_}
 use Prim.Native.Nat.{suc, _-_, _*_, _≤_, _<_}
 use native.Mathlib.Numerals.{add-one}
 use native.Mathlib.Omega.{arith}
-use lib.ListN.{length, drop}
+use lib.ListN.{drop}
 use Rattle.units.specs.Limits.{most-links, most-events}
 use Rattle.timeline.specs.Events.{row-at}
 use Rattle.timeline.proofs.Rows.{row-inside, row-later}
@@ -25,8 +25,10 @@ row-at-requires-2 c κs = search needs
 -- the rows of the start and of the last minute are the table's, in that order
 rows-found : (c : tie.After-row-at2) → (c .before .before .row-at .result ≤ c .row-at2 .result) × (c .row-at2 .result < most-events)
 rows-found c =
-    let s = c .before .before .before .before .before in
-    omega (arith, row-later (s .args .start .0) (s .args .end .0 - 1) (s .args .events .now) (omega arith), row-inside (s .args .end .0 - 1) (s .args .events .now) (omega arith))
+    let s = c .before .before .before .before .before in (
+      rw (c .before .before .row-at .ensures, c .row-at2 .ensures) (row-later (s .args .start .0) _ (s .args .events .now) (omega arith)),
+      rw (c .row-at2 .ensures, ← s .pre .0 .events-sized) (row-inside _ (s .args .events .now) (omega arith)),
+    )
 
 mul-from : tie.Need-mul-from
 mul-from c = omega (arith, rows-found c)
@@ -50,7 +52,7 @@ add-enough : tie.Need-add-enough
 add-enough c = omega (arith, rows-found (c .before))
 
 enough-requires : tie.Need-enough-requires
-enough-requires c κs = (rw length-rest (omega (arith, rows-found (c .before))), omega arith)
+enough-requires c κs = record { whole = rw length-rest (omega (arith, rows-found (c .before))); column = omega arith }
 
 returns : tie.Need-returns
 unfolding enough-span

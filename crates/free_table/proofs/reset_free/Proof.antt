@@ -62,7 +62,7 @@ returns c =
     let a = s .args in
     let e : l .link ≡ a .links = omega arith in
     c .before .before .clear-from .ensures
-    ∙ copied-cleared (most-events * most-links) (a .links) (a .capacities .now) (a .free .now) (l .free) (s .pre .1 .0) (l .inv .1 .0 ∙ s .pre .0) (l .inv .1 .1 ∙ ap (λ n. take n (a .capacities .now) ++ drop n (a .free .now)) e)
+    ∙ copied-cleared (most-events * most-links) (a .links) (a .capacities .now) (a .free .now) (l .free) (s .pre .given) (l .inv .1 .0 ∙ s .pre .free-sized) (l .inv .1 .1 ∙ ap (λ n. take n (a .capacities .now) ++ drop n (a .free .now)) e)
 
 pub reset-free-spec : {M : Type 1} → statement M
 reset-free-spec =

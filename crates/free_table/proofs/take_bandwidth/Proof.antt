@@ -1,5 +1,5 @@
 -- `take_bandwidth` meets its contract: the part from the start's row on is lent, and what stands before it stays.
-use mathlib.Core.Path.{_≡_, ap, ap₂, _∙_}
+use mathlib.Core.Path.{ap₂, _∙_}
 use mathlib.Core.List.{_++_}
 use Prim.Native.Nat.{_-_, _*_, _≤_, _<_}
 use native.Mathlib.Omega.{arith}
@@ -45,7 +45,7 @@ sub-subtract-2 : tie.Need-sub-subtract-2
 sub-subtract-2 c = omega (arith, rows-found (c .before))
 
 subtract-requires : tie.Need-subtract-requires
-subtract-requires c κs = (rw length-rest (omega (arith, rows-found (c .before))), omega arith)
+subtract-requires c κs = record { whole = rw length-rest (omega (arith, rows-found (c .before))); column = omega arith }
 
 same-length : tie.Need-same-length
 same-length c = search needs

@@ -1,5 +1,5 @@
 -- `count_events` meets its contract. The first `count` places hold events, and those left to count stand behind them.
-use mathlib.Core.Path.{_≡_, _∙_, sym, ap}
+use mathlib.Core.Path.{_≡_, sym}
 use Prim.Native.Nat.{_+_, _-_, _≤_}
 use native.Mathlib.Omega.{arith}
 use lib.ListN.{length, drop}

@@ -1,5 +1,5 @@
 -- `insert_event` meets its contract. The row that holds is below the count of events, so there is a row behind it.
-use mathlib.Core.Path.{_≡_, sym, _∙_}
+use mathlib.Core.Path.{sym, _∙_}
 use mathlib.Core.List.{List, [], _∷_}
 use Prim.Native.Nat.{ℕ, _+_, _*_, _≤_, _<_}
 use native.Mathlib.Omega.{arith}
@@ -35,7 +35,8 @@ returns : tie.Need-returns
 returns c =
     let f = c .before .before .before .row-at in
     let a = c .before .before .before .before .before .before .before .args in
-    let h : a .minute .0 ≤ getD (a .events .now) (row-at (a .events .now) (a .minute .0)) 0 = rw (f .ensures) at (c .if1 .taken) in
+    let late : a .minute .0 ≤ getD (a .events .now) (f .result) 0 = omega arith in
+    let h : a .minute .0 ≤ getD (a .events .now) (row-at (a .events .now) (a .minute .0)) 0 = rw (f .ensures) at late in
     (sym (with-event-there (a .minute .0) (a .events .now) h), sym (with-row-there (a .minute .0) (a .events .now) most-links (a .rows .now) h))
 
 mul-from : tie.Need-mul-from

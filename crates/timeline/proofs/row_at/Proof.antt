@@ -1,5 +1,5 @@
 -- `row_at` meets its contract. The rows up to `row` are passed, and what is left to pass are the events behind it.
-use mathlib.Core.Path.{_≡_, _∙_, sym, ap}
+use mathlib.Core.Path.{_≡_}
 use Prim.Native.Nat.{_+_, _-_, _≤_}
 use native.Mathlib.Omega.{arith}
 use lib.ListN.{length, drop}

@@ -17,7 +17,8 @@ use Rattle.path_search.specs.Paths.{Graph, goes-on, first-node, path-ok}
 use Rattle.desk_core.specs.declared.LinkTable.{LinkTable}
 use Rattle.desk_core.specs.Plain.{graph}
 use Rattle.desk_core.specs.LinkTables.{links-of}
-use Rattle.desk_core.proofs.Going.{Marks, marks-none, marks-more, path-none, path-some, path-rest, from-is, from-node, to-node, going-past, going-elsewhere, going-again, going-on}
+use Rattle.desk_core.proofs.LinkColumns.{from-column}
+use Rattle.desk_core.proofs.Going.{Marks, marks-none, marks-more, path-none, path-some, path-rest, from-node, to-node, going-past, going-elsewhere, going-again, going-on}
 use Rattle.desk_core.proofs.soundness.path_right.Statement.{statement}
 use Rattle.desk_core.proofs.soundness.path_right.Tie as tie
 use Rattle.desk_core.proofs.soundness.path_right.Reads as reads
@@ -130,7 +131,7 @@ loop-holds c =
     let l = getD (b .links) 0 0 in
     let node = getD (t .from) l 0 in
     let h = from-node t l (start .pre .0) known in
-    let first : first-node g path ≡ node = ap (first-node g) (path-rest (b .links) (b .count) 0 (omega arith) (omega (arith, start .pre .1 .sized, start .pre .1 .few))) ∙ from-is t l known in
+    let first : first-node g path ≡ node = ap (first-node g) (path-rest (b .links) (b .count) 0 (omega arith) (omega (arith, start .pre .1 .sized, start .pre .1 .few))) ∙ from-column t l known in
     (omega arith, h, length-set (replicate (suc last-node) false) node true, node ∷ [], marks-more (replicate (suc last-node) false) [] node (omega arith) marks-none, ap (λ v. goes-on g v (v ∷ []) path) first)
 
 -- src/soundness.rt:64:20
