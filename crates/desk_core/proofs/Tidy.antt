@@ -2,7 +2,7 @@
 -- places are tidy and whose other figures are zero is the book table of the bookings that it holds.
 use mathlib.Core.Path.{_≡_, refl, sym, ap, ap₂, _∙_, subst}
 use mathlib.Core.List.{List, [], _∷_, _++_, map, flatten}
-use mathlib.Core.Bool.{Bool, true, false, _&&_}
+use mathlib.Core.Bool.{Bool, true, false, _&&_, and-eq-true-iff}
 use Prim.Native.Nat.{ℕ, zero, suc, _+_, _-_, _*_, _≤_, _<_}
 use native.Mathlib.Numerals.{add-one}
 use native.Mathlib.Omega.{arith}
@@ -12,7 +12,7 @@ use lib.Seq.{drop-cons, drop-drop, take-at, drop-at, length-take-le}
 use Rattle.units.specs.declared.Link.{Link}
 use Rattle.units.specs.Limits.{most-hops, most-bookings, place-size}
 use Rattle.units.specs.Lists.{count-from, padded, all, All}
-use Rattle.units.proofs.Tests.{Tells, _&_, at-most, less-than, equals, all-tells, equal-tells, Rising, rising-tells}
+use Rattle.units.proofs.Tests.{Tells, _&_, at-most, less-than, equals, all-tells, equal-tells, Rising, rising-tells, Side, below, above, side}
 use Rattle.units.proofs.Padded.{padded-append}
 use Rattle.book.specs.declared.Booking.{Booking as Place}
 use Rattle.book.specs.Places.{number-at, booking-in, figures}
@@ -55,6 +55,10 @@ zeros-tell i l = subst (λ n. Tells (all (λ x. eqb x 0) (drop i l)) (drop i l �
 
 -- ---- a place
 
+pub tidy-few : (b : Place) → tidy b ≡ true → b .count ≤ most-hops
+unfolding tidy
+tidy-few b e = (at-most (b .count) most-hops & zeros-tell (b .count) (b .links)) .0 e .0
+
 module _ (b : Place) (sized : length (b .links) ≡ most-hops) where
   taken-path : b .count ≤ most-hops → length (take (b .count) (b .links)) ≡ b .count
   taken-path h = length-take-le (b .count) (b .links) (omega arith)
@@ -83,9 +87,6 @@ module _ (b : Place) (sized : length (b .links) ≡ most-hops) where
         (λ e. let h = t .0 e in written (h .0) (h .1)),
         λ e. t .1 (few e, rest-zero e),
       )
-
-  pub tidy-few : tidy b ≡ true → b .count ≤ most-hops
-  tidy-few e = few (tidy-tells .0 e)
 
 -- ---- the places of a book
 
@@ -126,6 +127,27 @@ module _ (links : List Link) (p : Plain) (book : List ℕ) where
   pub right-past : (last i n : ℕ) → i ≡ n → right-from last i (n - i) ≡ zeros-from (n * place-size) book
   unfolding right-from
   right-past last i n e = let z : n - i ≡ 0 = omega arith in ap₂ (right-from last) e z
+
+  -- so each of them has a path of at most thirty-one links
+  pub right-counts : (last i n : ℕ) → right-from last i n ≡ true → (j : ℕ) → i ≤ j → j < i + n → booking-in book j .count ≤ most-hops
+  unfolding right-from
+  right-counts last i zero e j a b = absurd (omega arith)
+  right-counts last i (suc n) e j a b = by (side i j) (λ h. right-counts (number-at book i) (suc i) n (passed .1) j h (omega arith))
+    where
+      all-but-rest : Bool
+      all-but-rest = ltb last (number-at book i) && tidy (booking-in book i) && booking-ok links p (booking-at book i)
+
+      passed : (all-but-rest ≡ true) × (right-from (number-at book i) (suc i) n ≡ true)
+      passed = and-eq-true-iff all-but-rest (right-from (number-at book i) (suc i) n) .0 e
+
+      tidy-here : tidy (booking-in book i) ≡ true
+      tidy-here =
+          let h = and-eq-true-iff (ltb last (number-at book i) && tidy (booking-in book i)) (booking-ok links p (booking-at book i)) .0 (passed .0) in
+          and-eq-true-iff (ltb last (number-at book i)) (tidy (booking-in book i)) .0 (h .0) .1
+
+      by : Side i j → (i < j → booking-in book j .count ≤ most-hops) → booking-in book j .count ≤ most-hops
+      by (below h) behind = behind h
+      by (above h) behind = let q : i ≡ j = omega arith in subst (λ k. booking-in book k .count ≤ most-hops) q (tidy-few (booking-in book i) tidy-here)
 
   abbrev bookings-from : ℕ → ℕ → List Booking
   bookings-from i n = map (booking-at book) (count-from i n)
@@ -194,24 +216,36 @@ module _ (links : List Link) (p : Plain) (book : List ℕ) where
       long : BookingRight links p (booking-at book i) → length (place (booking-at book i)) ≡ place-size
       long b = length-place (booking-at book i) (b .path-right .length-right .1)
 
--- the places of a whole book
-pub book-right-is : (links : List Link) (clock : ℕ) (book : List ℕ) (n : ℕ) → BookFits book n → right-from links (plain-in clock book n) book 0 0 n ≡ book-ok links book (plain-in clock book n)
+-- ---- a whole book
+
+abbrev pub BookRight : List Link → List ℕ → Plain → Type 0
+BookRight links book p = (Rising 0 (numbers (p .bookings)) × All (BookingRight links p) (p .bookings)) × (book ≡ book-table p)
+
+pub book-tells : (links : List Link) (book : List ℕ) (p : Plain) → Tells (book-ok links book p) (BookRight links book p)
 unfolding book-ok
-book-right-is links clock book n f =
-    same-test (right-from links p book 0 0 n) (book-ok links book p)
-    (λ e. let r = places .0 e in whole .1 ((r .in-order, r .bookings-right), r .places-are ∙ table (r .in-order)))
-    (λ e. let r = whole .0 e in places .1 (record { in-order = r .0 .0; bookings-right = r .0 .1; places-are = r .1 ∙ sym (table (r .0 .0)) }))
-  where
-    p : Plain
-    p = plain-in clock book n
+book-tells links book p = rising-tells 0 (numbers (p .bookings)) & all-tells (booking-ok links p) (BookingRight links p) (booking-tells links p) (p .bookings) & equal-tells book (book-table p)
 
-    places : Tells (right-from links p book 0 0 n) (RightFrom links p book 0 0 n)
-    places = right-tells links p book 0 0 n (omega (arith, f .few, f .sized))
+module _ (links : List Link) (clock : ℕ) (book : List ℕ) (n : ℕ) (fits : BookFits book n) where
+  -- the check of its places is the check of the whole
+  pub book-right-is : right-from links (plain-in clock book n) book 0 0 n ≡ book-ok links book (plain-in clock book n)
+  book-right-is =
+      same-test (right-from links p book 0 0 n) (book-ok links book p)
+      (λ e. let r = places .0 e in whole .1 ((r .in-order, r .bookings-right), r .places-are ∙ table (r .in-order)))
+      (λ e. let r = whole .0 e in places .1 (record { in-order = r .0 .0; bookings-right = r .0 .1; places-are = r .1 ∙ sym (table (r .0 .0)) }))
+    where
+      p : Plain
+      p = plain-in clock book n
 
-    whole : Tells (book-ok links book p) ((Rising 0 (numbers (p .bookings)) × All (BookingRight links p) (p .bookings)) × (book ≡ book-table p))
-    whole = rising-tells 0 (numbers (p .bookings)) & all-tells (booking-ok links p) (BookingRight links p) (booking-tells links p) (p .bookings) & equal-tells book (book-table p)
+      places : Tells (right-from links p book 0 0 n) (RightFrom links p book 0 0 n)
+      places = right-tells links p book 0 0 n (omega (arith, fits .few, fits .sized))
 
-    table : Rising 0 (numbers (p .bookings)) → padded (length book - 0) (flatten (map place (p .bookings))) ≡ book-table p
-    table r =
-        let z : length book - 0 ≡ most-bookings * place-size = omega (arith, f .sized) in
-        ap₂ (λ k (bs : List Booking). padded k (flatten (map place bs))) z (sym (by-number-fixed 0 (p .bookings) r))
+      whole : Tells (book-ok links book p) (BookRight links book p)
+      whole = book-tells links book p
+
+      table : Rising 0 (numbers (p .bookings)) → padded (length book - 0) (flatten (map place (p .bookings))) ≡ book-table p
+      table r =
+          let z : length book - 0 ≡ most-bookings * place-size = omega (arith, fits .sized) in
+          ap₂ (λ k (bs : List Booking). padded k (flatten (map place bs))) z (sym (by-number-fixed 0 (p .bookings) r))
+
+  pub book-counts : book-ok links book (plain-in clock book n) ≡ true → (i : ℕ) → i < n → booking-in book i .count ≤ most-hops
+  book-counts e i h = right-counts links (plain-in clock book n) book 0 0 n (book-right-is ∙ e) i (omega arith) (omega arith)

@@ -85,7 +85,7 @@ booking-right-requires c κs =
     let l = c .before .before .before .before .before .before .loop in
     let b = c .before .before .before .before .booking-at in
     let sized = subst (λ x. length (x .links) ≡ most-hops) (sym (b .ensures)) (path-places (start .args .book .now) (l .place) (omega (arith, start .pre .1 .few, start .pre .1 .sized))) in
-    (start .pre .0, record { few = tidy-few (b .result) sized (tidy-passed c); sized = sized })
+    (start .pre .0, record { few = tidy-few (b .result) (tidy-passed c); sized = sized })
 
 -- src/soundness.rt:146:13
 returns-3 : tie.Need-returns-3 Inv-loop μ-loop
