@@ -12,7 +12,7 @@ use Rattle.desk_core.specs.Plain.{taken, capacity}
 use Rattle.desk_core.specs.Tables.{Tables, tables, held, events-of, links-ok, sound}
 use Rattle.desk_core.specs.Checking.{book-ok, FiguresRight}
 use Rattle.desk_core.proofs.Tests.{links-tell}
-use Rattle.desk_core.proofs.Obeys.{sound-facts, sound-test, sound-obeys, sound-tables, held-count}
+use Rattle.desk_core.proofs.Obeys.{sound-facts, sound-test, sound-obeys, held-count}
 use Rattle.desk_core.proofs.Tidy.{BookRight, book-tells}
 
 pub record Checked (links : List Link) (t : Tables) : Type 0 where

@@ -7,7 +7,7 @@ use Prim.Native.Nat.{ℕ, zero, suc, _+_, _-_, _*_, _≤_, _<_}
 use native.Mathlib.Numerals.{add-one}
 use native.Mathlib.Omega.{arith}
 use lib.Dec.{ltb, eqb}
-use lib.ListN.{length, getD, take, drop, replicate, length-append, length-take, length-drop, take-append-drop, drop-of-length-le}
+use lib.ListN.{length, getD, take, drop, replicate, length-take, length-drop, take-append-drop, drop-of-length-le}
 use lib.Seq.{drop-cons, drop-drop, take-at, drop-at, length-take-le}
 use Rattle.units.specs.declared.Link.{Link}
 use Rattle.units.specs.Limits.{most-hops, most-bookings, place-size}
@@ -18,7 +18,7 @@ use Rattle.book.specs.declared.Booking.{Booking as Place}
 use Rattle.book.specs.Places.{number-at, booking-in, figures}
 use Rattle.desk_core.specs.Plain.{Booking, Plain}
 use Rattle.desk_core.specs.Calls.{numbers}
-use Rattle.desk_core.specs.Tables.{place, booking-of, booking-at, plain-in, by-number, book-table, booking-ok}
+use Rattle.desk_core.specs.Tables.{place, booking-of, booking-at, plain-in, book-table, booking-ok}
 use Rattle.desk_core.specs.Sound.{BookingRight}
 use Rattle.desk_core.specs.Checking.{zeros-from, tidy, book-ok, BookFits}
 use Rattle.desk_core.proofs.Book.{length-place, by-number-fixed}

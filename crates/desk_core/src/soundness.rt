@@ -1,16 +1,28 @@
 // Document 01's 'sound': links and book obey the rules, no link is oversold, and head, events and free figures are the
 // ones that links, clock and book give. Every call but the set-up asks this first. Nothing here writes a lent table.
-use book::{booking_at, release, Booking};
-use crate::rebuild::rebuild;
-use crate::refusals::{ends_ok, in_range};
 use crate::LinkTable;
-use units::{Head, Minute, BOOKINGS, EVENTS, FREE_FIGURES, MAX_BANDWIDTH, MAX_DURATION, MAX_MINUTE, MAX_NUMBER, PATH_LINKS, PLACE};
-
+use crate::rebuild::rebuild;
+use crate::refusals::ends_ok;
+use crate::refusals::in_range;
+use book::Booking;
+use book::booking_at;
+use book::release;
+use units::BOOKINGS;
+use units::EVENTS;
+use units::FREE_FIGURES;
+use units::Head;
+use units::MAX_BANDWIDTH;
+use units::MAX_DURATION;
+use units::MAX_MINUTE;
+use units::MAX_NUMBER;
+use units::Minute;
+use units::PATH_LINKS;
+use units::PLACE;
 ghost use mathlib.Core.Path.{_≡_};
 ghost use mathlib.Core.Bool.{true};
 ghost use mathlib.Core.Logic.{_↔_};
 ghost use Prim.Native.Nat.{_≤_};
-ghost use Rattle.units.specs.Limits.{most-links, most-hops};
+ghost use Rattle.units.specs.Limits.{most-links};
 ghost use Rattle.units.specs.Lists.{equal};
 ghost use Rattle.path_search.specs.Paths.{path-ok};
 ghost use Rattle.desk_core.specs.Plain.{graph};
@@ -169,13 +181,27 @@ fn equal(a: &[u32], b: &[u32]) -> bool
 }
 
 // Whether no link is oversold, and events and free figures are the ones that links, clock and book give.
-fn figures_right(links: LinkTable, clock: Minute, count: usize, events: &[u32], free: &[u32], book: &[u32]) -> bool
+fn figures_right(
+    links: LinkTable,
+    clock: Minute,
+    count: usize,
+    events: &[u32],
+    free: &[u32],
+    book: &[u32],
+) -> bool
     requires { ⌜ CanRebuild links (clock .0) (now book) count (now events) (now free) ⌝ }
     ensures { λ r. ⌜ (r ≡ true) ↔ FiguresRight (links-of links) (plain-in (clock .0) (now (book .entry)) count) (now (events .entry)) (now (free .entry)) ⌝ }
 {
     let mut right_events = [0; EVENTS];
     let mut right_free = [0; FREE_FIGURES];
-    if !rebuild(links, clock, book, count, &mut right_events, &mut right_free) {
+    if !rebuild(
+        links,
+        clock,
+        book,
+        count,
+        &mut right_events,
+        &mut right_free,
+    ) {
         return false;
     }
     if !equal(events, &right_events) {
@@ -185,7 +211,13 @@ fn figures_right(links: LinkTable, clock: Minute, count: usize, events: &[u32], 
 }
 
 // Document 01's 'sound', of tables that have the right sizes.
-pub(crate) fn sound(head: Head, links: LinkTable, events: &[u32], free: &[u32], book: &[u32]) -> bool
+pub(crate) fn sound(
+    head: Head,
+    links: LinkTable,
+    events: &[u32],
+    free: &[u32],
+    book: &[u32],
+) -> bool
     requires { ⌜ sized (links-of links) (lent head (now events) (now free) (now book)) ≡ true ⌝ }
     ensures { λ r. ⌜ r ≡ sound (links-of links) (lent head (now (events .entry)) (now (free .entry)) (now (book .entry))) ⌝ }
 {

@@ -1,7 +1,7 @@
 -- `book_right` meets its contract: the places passed obey the rules, and `last` is the number of the last of them.
 use mathlib.Core.Path.{_≡_, sym, ap, _∙_, subst}
 use mathlib.Core.Bool.{true, _&&_}
-use Prim.Native.Nat.{ℕ, _+_, _-_, _*_, _≤_, _<_}
+use Prim.Native.Nat.{_+_, _-_, _≤_}
 use native.Mathlib.Omega.{arith}
 use lib.Dec.{ltb}
 use lib.ListN.{length}
@@ -10,16 +10,10 @@ use borrow.Author.Tests.{lt-ltb, le-ltb, not-true, not-false}
 use Rattle.units.specs.Limits.{most-hops}
 use Rattle.desk_core.specs.Tables.{booking-of, plain-in, booking-ok}
 use Rattle.desk_core.specs.LinkTables.{links-of}
-use Rattle.desk_core.specs.Checking.{tidy, at-clock, book-ok, PathFits}
+use Rattle.desk_core.specs.Checking.{tidy, at-clock, book-ok}
 use Rattle.desk_core.proofs.Tidy.{right-from, right-here, right-past, book-right-is, path-places, tidy-few}
 use Rattle.desk_core.proofs.soundness.book_right.Statement.{statement}
 use Rattle.desk_core.proofs.soundness.book_right.Tie as tie
-use Rattle.desk_core.proofs.soundness.book_right.Reads as reads
-use Rattle.desk_core.proofs.soundness.book_right.Lts as lts
-use Rattle.book.proofs.booking_at.Reads as booking-at-reads
-use Rattle.desk_core.proofs.soundness.booking_right.Reads as booking-right-reads
-use Rattle.desk_core.proofs.soundness.path_tidy.Reads as path-tidy-reads
-use Rattle.desk_core.proofs.soundness.zeros.Reads as zeros-reads
 
 abbrev Inv-loop : tie.InvT-loop
 Inv-loop links clock book count last₀ place₀ last place =
@@ -54,7 +48,6 @@ number-passed c = lt-ltb _ _ (c .if1 .left)
 tidy-passed : (c : tie.Else2 Inv-loop μ-loop) → tidy (c .before .before .before .before .booking-at .result) ≡ true
 tidy-passed c = sym (c .before .path-tidy .ensures) ∙ not-false _ (c .if2 .left)
 
--- src/soundness.rt:137:5
 loop-holds : tie.Need-loop-holds Inv-loop μ-loop
 loop-holds c =
     let a = c .before .args in
@@ -62,23 +55,18 @@ loop-holds c =
     let e : a .count ≡ a .count - 0 = omega arith in
     (omega arith, sym (book-right-is (links-of (a .links)) (a .clock .0) (a .book .now) (a .count) (c .before .pre .1)) ∙ ap (right-from (links-of (a .links)) p (a .book .now) 0 0) e)
 
--- src/soundness.rt:138:13
 booking-at-requires : tie.Need-booking-at-requires Inv-loop μ-loop
 booking-at-requires c κs = search needs
 
--- src/soundness.rt:140:13
 returns : tie.Need-returns Inv-loop μ-loop
 returns c = sym (next-place (c .before .before) ∙ simp (le-ltb _ _ (c .if1 .taken)))
 
--- src/soundness.rt:142:13
 path-tidy-requires : tie.Need-path-tidy-requires Inv-loop μ-loop
 path-tidy-requires c κs = search needs
 
--- src/soundness.rt:143:13
 returns-2 : tie.Need-returns-2 Inv-loop μ-loop
 returns-2 c = let e = c .before .before in sym (next-place (e .before .before) ∙ simp (number-passed e, sym (c .before .path-tidy .ensures) ∙ not-true _ (c .if2 .taken)))
 
--- src/soundness.rt:145:13
 booking-right-requires : tie.Need-booking-right-requires Inv-loop μ-loop
 booking-right-requires c κs =
     let start = c .before .before .before .before .before .before .before .before in
@@ -87,37 +75,30 @@ booking-right-requires c κs =
     let sized = subst (λ x. length (x .links) ≡ most-hops) (sym (b .ensures)) (path-places (start .args .book .now) (l .place) (omega (arith, start .pre .1 .few, start .pre .1 .sized))) in
     (start .pre .0, record { few = tidy-few (b .result) (tidy-passed c); sized = sized })
 
--- src/soundness.rt:146:13
 returns-3 : tie.Need-returns-3 Inv-loop μ-loop
 returns-3 c =
     let e = c .before .before in
     let d = e .before .before in
     sym (next-place (d .before .before) ∙ simp (number-passed d, tidy-passed e, sym (c .before .booking-right .ensures) ∙ not-true _ (c .if3 .taken)))
 
--- src/soundness.rt:149:9
 add-place : tie.Need-add-place Inv-loop μ-loop
 add-place c = search needs
 
--- src/soundness.rt:137:5
 loop-less : tie.Need-loop-less Inv-loop μ-loop
 loop-less c = search needs
 
--- src/soundness.rt:137:5
 loop-again : tie.Need-loop-again Inv-loop μ-loop
 loop-again c =
     let e = c .before .before in
     let d = e .before .before in
     (omega arith, next-place (d .before .before) ∙ simp (number-passed d, tidy-passed e, sym (c .before .booking-right .ensures) ∙ not-false _ (c .if3 .left)))
 
--- src/soundness.rt:151:17
 mul-zeros : tie.Need-mul-zeros Inv-loop μ-loop
 mul-zeros c = search needs
 
--- src/soundness.rt:151:5
 zeros-requires : tie.Need-zeros-requires Inv-loop μ-loop
 zeros-requires c κs = search needs
 
--- src/soundness.rt:131:1
 returns-4 : tie.Need-returns-4 Inv-loop μ-loop
 returns-4 c =
     let l = c .before .before .loop in

@@ -1,7 +1,7 @@
 -- `equal` meets its contract: the figures up to i are the same.
 use mathlib.Core.Path.{_≡_, refl, sym, ap, ap₂, _∙_}
 use mathlib.Core.List.{List}
-use mathlib.Core.Bool.{Bool, _&&_, true, false}
+use mathlib.Core.Bool.{_&&_, true}
 use Prim.Native.Nat.{ℕ, _-_, _+_, _≤_, _<_}
 use native.Mathlib.Numerals.{add-one}
 use native.Mathlib.Omega.{arith}

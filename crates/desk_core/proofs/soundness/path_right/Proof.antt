@@ -1,10 +1,9 @@
 -- `path_right` meets its contract: the links before i go on from one to the next, `node` is where they end, and `met` marks
 -- the nodes that they meet.
-use mathlib.Core.Path.{_≡_, refl, sym, ap, _∙_}
+use mathlib.Core.Path.{_≡_, sym, ap, _∙_}
 use mathlib.Core.List.{List, [], _∷_}
 use mathlib.Core.Bool.{true, false}
-use Prim.Native.Nat.{ℕ, suc, _-_, _+_, _≤_, _<_}
-use native.Mathlib.Numerals.{add-one}
+use Prim.Native.Nat.{ℕ, suc, _-_, _+_, _≤_}
 use native.Mathlib.Omega.{arith}
 use borrow.Author.Needs.{needs}
 use lib.ListN.{length, getD, take, drop, replicate, length-set, drop-of-length-le}
@@ -12,8 +11,7 @@ use lib.Seq.{length-take-le}
 use mir.Val.{Fits}
 use mir.Syntax.{w64}
 use Rattle.units.specs.Limits.{last-node, most-hops}
-use Rattle.units.specs.Lists.{member}
-use Rattle.path_search.specs.Paths.{Graph, goes-on, first-node, path-ok}
+use Rattle.path_search.specs.Paths.{goes-on, first-node, path-ok}
 use Rattle.desk_core.specs.declared.LinkTable.{LinkTable}
 use Rattle.desk_core.specs.Plain.{graph}
 use Rattle.desk_core.specs.LinkTables.{links-of}
@@ -21,8 +19,6 @@ use Rattle.desk_core.proofs.LinkColumns.{from-column}
 use Rattle.desk_core.proofs.Going.{Marks, marks-none, marks-more, path-none, path-some, path-rest, from-node, to-node, going-past, going-elsewhere, going-again, going-on}
 use Rattle.desk_core.proofs.soundness.path_right.Statement.{statement}
 use Rattle.desk_core.proofs.soundness.path_right.Tie as tie
-use Rattle.desk_core.proofs.soundness.path_right.Reads as reads
-use Rattle.desk_core.proofs.soundness.path_right.Lts as lts
 
 -- the whole path goes on if the rest does
 abbrev Same : LinkTable → List ℕ → ℕ → List ℕ → ℕ → Type 0
@@ -65,19 +61,15 @@ next-node c =
     let start = c .before .before .before .before .before .before .before .before in
     to-node (start .args .t1) (getD (start .args .booking .links) (c .before .before .loop .i) 0) (start .pre .0) (c .if3 .left)
 
--- src/soundness.rt:51:17
 cast-count : tie.Need-cast-count Inv-loop μ-loop
 cast-count c = search needs
 
--- src/soundness.rt:52:17
 array-read-first : tie.Need-array-read-first Inv-loop μ-loop
 array-read-first c = search needs
 
--- src/soundness.rt:52:17
 cast-first : tie.Need-cast-first Inv-loop μ-loop
 cast-first c = search needs
 
--- src/soundness.rt:54:9
 returns : tie.Need-returns Inv-loop μ-loop
 returns c =
     let start = c .before .before .before in
@@ -85,7 +77,6 @@ returns c =
     let long = path-length (b .links) (b .count) (start .pre .1 .sized) (start .pre .1 .few) in
     sym (path-none (graph (links-of (start .args .t1))) (take (b .count) (b .links)) (omega arith))
 
--- src/soundness.rt:57:9
 returns-2 : tie.Need-returns-2 Inv-loop μ-loop
 returns-2 c =
     let start = c .before .before .before .before in
@@ -99,19 +90,15 @@ returns-2 c =
     ∙ ap (goes-on g v (v ∷ [])) (path-rest (b .links) (b .count) 0 (omega arith) (omega arith))
     ∙ going-past t (getD (b .links) 0 0) v (v ∷ []) (drop 1 path) (c .if2 .taken))
 
--- src/soundness.rt:59:20
 mul-node : tie.Need-mul-node Inv-loop μ-loop
 mul-node c = search needs
 
--- src/soundness.rt:59:20
 element-copy-out-node : tie.Need-element-copy-out-node Inv-loop μ-loop
 element-copy-out-node c = search needs
 
--- src/soundness.rt:59:20
 cast-node : tie.Need-cast-node Inv-loop μ-loop
 cast-node c = search needs
 
--- src/soundness.rt:61:5
 array-write-met : tie.Need-array-write-met Inv-loop μ-loop
 array-write-met c =
     let start = c .before .before .before .before .before in
@@ -119,7 +106,6 @@ array-write-met c =
     let h = from-node (start .args .t1) l (start .pre .0) (c .before .if2 .left) in
     omega arith
 
--- src/soundness.rt:63:5
 loop-holds : tie.Need-loop-holds Inv-loop μ-loop
 loop-holds c =
     let start = c .before .before .before .before .before in
@@ -134,41 +120,33 @@ loop-holds c =
     let first : first-node g path ≡ node = ap (first-node g) (path-rest (b .links) (b .count) 0 (omega arith) (omega (arith, start .pre .1 .sized, start .pre .1 .few))) ∙ from-column t l known in
     (omega arith, h, length-set (replicate (suc last-node) false) node true, node ∷ [], marks-more (replicate (suc last-node) false) [] node (omega arith) marks-none, ap (λ v. goes-on g v (v ∷ []) path) first)
 
--- src/soundness.rt:64:20
 mul-link : tie.Need-mul-link Inv-loop μ-loop
 mul-link c = search needs
 
--- src/soundness.rt:64:20
 array-read-link : tie.Need-array-read-link Inv-loop μ-loop
 array-read-link c = search needs
 
--- src/soundness.rt:64:20
 cast-link : tie.Need-cast-link Inv-loop μ-loop
 cast-link c = link-fits (c .before .before .before .before .before) (c .before .loop .i)
 
--- src/soundness.rt:66:13
 returns-3 : tie.Need-returns-3 Inv-loop μ-loop
 returns-3 c =
     let l = c .before .before .loop in
     let s = c .before .before .before .before .before .before .before .before .args in
     sym (turn (c .before) ∙ going-past (s .t1) (getD (s .booking .links) (l .i) 0) (l .node) (l .inv .3) (drop (l .i + 1) (take (s .booking .count) (s .booking .links))) (c .if3 .taken))
 
--- src/soundness.rt:68:12
 mul-if4 : tie.Need-mul-if4 Inv-loop μ-loop
 mul-if4 c = search needs
 
--- src/soundness.rt:68:12
 element-copy-out-if4 : tie.Need-element-copy-out-if4 Inv-loop μ-loop
 element-copy-out-if4 c = search needs
 
--- src/soundness.rt:68:12
 cast-if4 : tie.Need-cast-if4 Inv-loop μ-loop
 cast-if4 c =
     let start = c .before .before .before .before .before .before .before .before .before in
     let h = from-node (start .args .t1) (getD (start .args .booking .links) (c .before .before .before .loop .i) 0) (start .pre .0) (c .before .if3 .left) in
     record { fits = omega arith }
 
--- src/soundness.rt:69:13
 returns-4 : tie.Need-returns-4 Inv-loop μ-loop
 returns-4 c =
     let in-loop = c .before .before .before in
@@ -177,23 +155,18 @@ returns-4 c =
     sym (turn in-loop
     ∙ going-elsewhere (s .t1) (getD (s .booking .links) (l .i) 0) (l .node) (l .inv .3) (drop (l .i + 1) (take (s .booking .count) (s .booking .links))) (c .before .before .if3 .left) (c .if4 .taken))
 
--- src/soundness.rt:71:16
 mul-node-2 : tie.Need-mul-node-2 Inv-loop μ-loop
 mul-node-2 c = search needs
 
--- src/soundness.rt:71:16
 element-copy-out-node-2 : tie.Need-element-copy-out-node-2 Inv-loop μ-loop
 element-copy-out-node-2 c = search needs
 
--- src/soundness.rt:71:16
 cast-node-2 : tie.Need-cast-node-2 Inv-loop μ-loop
 cast-node-2 c = let h = next-node (c .before .before .before) in record { fits = omega arith }
 
--- src/soundness.rt:72:12
 array-read-if5 : tie.Need-array-read-if5 Inv-loop μ-loop
 array-read-if5 c = let h = next-node (c .before .before .before) in omega arith
 
--- src/soundness.rt:73:13
 returns-5 : tie.Need-returns-5 Inv-loop μ-loop
 returns-5 c =
     let in-loop = c .before .before .before .before .before in
@@ -205,19 +178,15 @@ returns-5 c =
     ∙ going-again (s .t1) link (l .node) (l .inv .3) (drop (l .i + 1) (take (s .booking .count) (s .booking .links))) (c .before .before .before .before .if3 .left) (c .before .before .if4 .left)
     (sym (l .inv .4 node (next-node (c .before .before .before .before))) ∙ c .if5 .taken))
 
--- src/soundness.rt:75:9
 array-write-met-2 : tie.Need-array-write-met-2 Inv-loop μ-loop
 array-write-met-2 c = let h = next-node (c .before .before .before .before) in omega arith
 
--- src/soundness.rt:76:9
 add-i : tie.Need-add-i Inv-loop μ-loop
 add-i c = search needs
 
--- src/soundness.rt:63:5
 loop-less : tie.Need-loop-less Inv-loop μ-loop
 loop-less c = search needs
 
--- src/soundness.rt:63:5
 loop-again : tie.Need-loop-again Inv-loop μ-loop
 loop-again c =
     let in-loop = c .before .before .before .before .before in
@@ -235,12 +204,11 @@ loop-again c =
       node ∷ l .inv .3,
       marks-more (l .met) (l .inv .3) node (omega arith) (l .inv .4),
       l .inv .5
-      ∙ ap (goes-on (graph (links-of (s .t1))) (l .node) (l .inv .3)) (path-rest links count (l .i) (omega arith) (omega (arith, fits .sized, fits .few)))
-      ∙ going-on (s .t1) link (l .node) (l .inv .3) (drop (l .i + 1) (take count links)) (c .before .before .before .before .if3 .left) (c .before .before .if4 .left)
-      (sym (l .inv .4 node h) ∙ c .if5 .left),
+          ∙ ap (goes-on (graph (links-of (s .t1))) (l .node) (l .inv .3)) (path-rest links count (l .i) (omega arith) (omega (arith, fits .sized, fits .few)))
+          ∙ going-on (s .t1) link (l .node) (l .inv .3) (drop (l .i + 1) (take count links)) (c .before .before .before .before .if3 .left) (c .before .before .if4 .left)
+          (sym (l .inv .4 node h) ∙ c .if5 .left),
     )
 
--- src/soundness.rt:46:1
 returns-6 : tie.Need-returns-6 Inv-loop μ-loop
 unfolding goes-on
 returns-6 c =

@@ -4,28 +4,20 @@ use borrow.Author.Tests.{lt-leb, le-leb}
 use Rattle.desk_core.specs.Checking.{tidy}
 use Rattle.desk_core.proofs.soundness.path_tidy.Statement.{statement}
 use Rattle.desk_core.proofs.soundness.path_tidy.Tie as tie
-use Rattle.desk_core.proofs.soundness.path_tidy.Reads as reads
-use Rattle.desk_core.proofs.soundness.path_tidy.Lts as lts
-use Rattle.desk_core.proofs.soundness.zeros.Reads as zeros-reads
 
--- src/soundness.rt:123:17
 cast-count : tie.Need-cast-count
 cast-count c = search needs
 
--- src/soundness.rt:125:9
 returns : tie.Need-returns
 unfolding tidy
 returns c = simp (lt-leb _ _ (c .if1 .taken))
 
--- src/soundness.rt:127:11
 slice-aggregate-zeros : tie.Need-slice-aggregate-zeros
 slice-aggregate-zeros c = search needs
 
--- src/soundness.rt:127:5
 zeros-requires : tie.Need-zeros-requires
 zeros-requires c κs = search needs
 
--- src/soundness.rt:119:1
 returns-2 : tie.Need-returns-2
 unfolding tidy
 returns-2 c = simp (le-leb _ _ (c .before .before .if1 .left)) (c .zeros .ensures)
