@@ -80,7 +80,7 @@ module _ (b : Place) (sized : length (b .links) ≡ most-hops) where
       let n : most-hops - length (take (b .count) (b .links)) ≡ length (b .links) - b .count = omega (arith, taken-path h) in
       ap (drop (b .count)) (sym (ap (drop 5) e)) ∙ drop-at (take (b .count) (b .links)) (replicate (most-hops - length (take (b .count) (b .links))) 0) (b .count) (taken-path h) ∙ ap (λ k. replicate k 0) n
 
-  pub tidy-tells : Tells (tidy b) (place (booking-of b) ≡ figures b)
+  tidy-tells : Tells (tidy b) (place (booking-of b) ≡ figures b)
   unfolding tidy
   tidy-tells =
       let t = at-most (b .count) most-hops & zeros-tell (b .count) (b .links) in (
@@ -109,7 +109,7 @@ module _ (book : List ℕ) (i : ℕ) (h : i * place-size + place-size ≤ length
       ∙ ap (λ (l : List ℕ). getD book (at + 4) 0 ∷ l) (sym (take-append-drop most-hops (drop (at + 5) book))
       ∙ ap (λ (l : List ℕ). take most-hops (drop (at + 5) book) ++ l) (drop-drop most-hops (at + 5) book ∙ ap (λ j. drop j book) next))))))
 
-  pub path-places : length (booking-in book i .links) ≡ most-hops
+  path-places : length (booking-in book i .links) ≡ most-hops
   path-places = length-take-le most-hops (drop (i * place-size + 5) book) (rw length-drop (omega arith))
 
 module _ (links : List Link) (p : Plain) (book : List ℕ) where

@@ -43,11 +43,6 @@ pub record LinksRight (links : LinkTable) : Type 0 where
   pub few : links .count ≤ most-links
   pub all-ok : links-ok (links-of links) ≡ true
 
--- a place whose path has at most thirty-one links
-pub record PathFits (b : Place) : Type 0 where
-  pub few : b .count ≤ most-hops
-  pub sized : length (b .links) ≡ most-hops
-
 -- a book of document 01's size, of which n places are used
 pub record BookFits (book : List ℕ) (n : ℕ) : Type 0 where
   pub few : n ≤ most-bookings

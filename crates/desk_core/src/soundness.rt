@@ -22,7 +22,7 @@ ghost use mathlib.Core.Path.{_≡_};
 ghost use mathlib.Core.Bool.{true};
 ghost use mathlib.Core.Logic.{_↔_};
 ghost use Prim.Native.Nat.{_≤_};
-ghost use Rattle.units.specs.Limits.{most-links};
+ghost use Rattle.units.specs.Limits.{most-links, most-hops};
 ghost use Rattle.units.specs.Lists.{equal};
 ghost use Rattle.path_search.specs.Paths.{path-ok};
 ghost use Rattle.desk_core.specs.Plain.{graph};
@@ -30,7 +30,7 @@ ghost use Rattle.desk_core.specs.Tables.{links-ok, booking-ok, booking-o
 ghost use Rattle.desk_core.specs.LinkTables.{links-of};
 ghost use Rattle.desk_core.specs.Lent.{lent};
 ghost use Rattle.desk_core.specs.Rebuilding.{path-of, CanRebuild};
-ghost use Rattle.desk_core.specs.Checking.{at-clock, zeros-from, tidy, book-ok, FiguresRight, LinksRight, PathFits, BookFits};
+ghost use Rattle.desk_core.specs.Checking.{at-clock, zeros-from, tidy, book-ok, FiguresRight, LinksRight, BookFits};
 
 // The nodes that there may be: one more than the most links of a path.
 const NODES: usize = PATH_LINKS + 1;
@@ -56,7 +56,7 @@ pub(crate) fn links_right(links: LinkTable) -> bool
 
 // Whether a booking's path has a link, each begins where the one before ended, and no node is met twice.
 fn path_right(links: LinkTable, booking: Booking) -> bool
-    requires { ⌜ LinksRight links ⌝ ∗ ⌜ PathFits booking ⌝ }
+    requires { ⌜ LinksRight links ⌝ ∗ ⌜ booking .count ≤ most-hops ⌝ }
     ensures { λ r. ⌜ r ≡ path-ok (graph (links-of links)) (path-of booking) ⌝ }
 {
     let path = booking.links;
@@ -92,7 +92,7 @@ fn path_right(links: LinkTable, booking: Booking) -> bool
 
 // Whether a booking's figures are in range, its path is right and it still stands at the clock.
 fn booking_right(links: LinkTable, clock: Minute, booking: Booking) -> bool
-    requires { ⌜ LinksRight links ⌝ ∗ ⌜ PathFits booking ⌝ }
+    requires { ⌜ LinksRight links ⌝ ∗ ⌜ booking .count ≤ most-hops ⌝ }
     ensures { λ r. ⌜ r ≡ booking-ok (links-of links) (at-clock (clock .0)) (booking-of booking) ⌝ }
 {
     if !in_range(1, MAX_NUMBER, booking.number) {

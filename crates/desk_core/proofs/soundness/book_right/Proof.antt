@@ -1,17 +1,15 @@
 -- `book_right` meets its contract: the places passed obey the rules, and `last` is the number of the last of them.
-use mathlib.Core.Path.{_≡_, sym, ap, _∙_, subst}
+use mathlib.Core.Path.{_≡_, sym, ap, _∙_}
 use mathlib.Core.Bool.{true, _&&_}
 use Prim.Native.Nat.{_+_, _-_, _≤_}
 use native.Mathlib.Omega.{arith}
 use lib.Dec.{ltb}
-use lib.ListN.{length}
 use borrow.Author.Needs.{needs}
 use borrow.Author.Tests.{lt-ltb, le-ltb, not-true, not-false}
-use Rattle.units.specs.Limits.{most-hops}
 use Rattle.desk_core.specs.Tables.{booking-of, plain-in, booking-ok}
 use Rattle.desk_core.specs.LinkTables.{links-of}
 use Rattle.desk_core.specs.Checking.{tidy, at-clock, book-ok}
-use Rattle.desk_core.proofs.Tidy.{right-from, right-here, right-past, book-right-is, path-places, tidy-few}
+use Rattle.desk_core.proofs.Tidy.{right-from, right-here, right-past, book-right-is, tidy-few}
 use Rattle.desk_core.proofs.soundness.book_right.Statement.{statement}
 use Rattle.desk_core.proofs.soundness.book_right.Tie as tie
 
@@ -70,10 +68,7 @@ returns-2 c = let e = c .before .before in sym (next-place (e .before .before) �
 booking-right-requires : tie.Need-booking-right-requires Inv-loop μ-loop
 booking-right-requires c κs =
     let start = c .before .before .before .before .before .before .before .before in
-    let l = c .before .before .before .before .before .before .loop in
-    let b = c .before .before .before .before .booking-at in
-    let sized = subst (λ x. length (x .links) ≡ most-hops) (sym (b .ensures)) (path-places (start .args .book .now) (l .place) (omega (arith, start .pre .1 .few, start .pre .1 .sized))) in
-    (start .pre .0, record { few = tidy-few (b .result) (tidy-passed c); sized = sized })
+    (start .pre .0, tidy-few (c .before .before .before .before .booking-at .result) (tidy-passed c))
 
 returns-3 : tie.Need-returns-3 Inv-loop μ-loop
 returns-3 c =

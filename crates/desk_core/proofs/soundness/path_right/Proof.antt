@@ -31,9 +31,12 @@ Inv-loop links path count first node₀ met₀ i₀ node met i = (i ≤ count) �
 abbrev μ-loop : tie.MeasureT-loop
 μ-loop links path count first node₀ met₀ i₀ node met i = count - i
 
--- the length of the path, where it is in range
-path-length : (links : List ℕ) (count : ℕ) → length links ≡ most-hops → count ≤ most-hops → length (take count links) ≡ count
-path-length links count e h = length-take-le count links (omega arith)
+-- the type says that a path has 31 places, so as many of them are links as the count says
+places : (s : tie.Start Inv-loop μ-loop) → length (s .args .booking .links) ≡ most-hops
+places s = search needs
+
+path-length : (s : tie.Start Inv-loop μ-loop) → length (take (s .args .booking .count) (s .args .booking .links)) ≡ s .args .booking .count
+path-length s = length-take-le (s .args .booking .count) (s .args .booking .links) (omega (arith, places s, s .pre .1))
 
 -- a link's number fits
 link-fits : (c : tie.After-struct-known Inv-loop μ-loop) (i : ℕ) → Fits w64 (getD (c .before .before .args .booking .links) i 0)
@@ -51,8 +54,8 @@ turn c =
     let l = c .before .loop in
     let g = graph (links-of (start .args .t1)) in
     let path = take (b .count) (b .links) in
-    let long = path-length (b .links) (b .count) (start .pre .1 .sized) (start .pre .1 .few) in
-    path-some g path (omega arith) (omega arith) ∙ l .inv .5 ∙ ap (goes-on g (l .node) (l .inv .3)) (path-rest (b .links) (b .count) (l .i) (omega arith) (omega arith))
+    let long = path-length start in
+    path-some g path (omega arith) (omega arith) ∙ l .inv .5 ∙ ap (goes-on g (l .node) (l .inv .3)) (path-rest (b .links) (b .count) (l .i) (omega arith) (omega (arith, places start)))
 
 -- the node where the next link ends
 next-node : (c : tie.Else3 Inv-loop μ-loop) →
@@ -74,7 +77,7 @@ returns : tie.Need-returns Inv-loop μ-loop
 returns c =
     let start = c .before .before .before in
     let b = start .args .booking in
-    let long = path-length (b .links) (b .count) (start .pre .1 .sized) (start .pre .1 .few) in
+    let long = path-length start in
     sym (path-none (graph (links-of (start .args .t1))) (take (b .count) (b .links)) (omega arith))
 
 returns-2 : tie.Need-returns-2 Inv-loop μ-loop
@@ -85,9 +88,9 @@ returns-2 c =
     let g = graph (links-of t) in
     let path = take (b .count) (b .links) in
     let v = first-node g path in
-    let long = path-length (b .links) (b .count) (start .pre .1 .sized) (start .pre .1 .few) in
+    let long = path-length start in
     sym (path-some g path (omega arith) (omega arith)
-    ∙ ap (goes-on g v (v ∷ [])) (path-rest (b .links) (b .count) 0 (omega arith) (omega arith))
+    ∙ ap (goes-on g v (v ∷ [])) (path-rest (b .links) (b .count) 0 (omega arith) (omega (arith, places start)))
     ∙ going-past t (getD (b .links) 0 0) v (v ∷ []) (drop 1 path) (c .if2 .taken))
 
 mul-node : tie.Need-mul-node Inv-loop μ-loop
@@ -117,7 +120,7 @@ loop-holds c =
     let l = getD (b .links) 0 0 in
     let node = getD (t .from) l 0 in
     let h = from-node t l (start .pre .0) known in
-    let first : first-node g path ≡ node = ap (first-node g) (path-rest (b .links) (b .count) 0 (omega arith) (omega (arith, start .pre .1 .sized, start .pre .1 .few))) ∙ from-column t l known in
+    let first : first-node g path ≡ node = ap (first-node g) (path-rest (b .links) (b .count) 0 (omega arith) (omega (arith, places start))) ∙ from-column t l known in
     (omega arith, h, length-set (replicate (suc last-node) false) node true, node ∷ [], marks-more (replicate (suc last-node) false) [] node (omega arith) marks-none, ap (λ v. goes-on g v (v ∷ []) path) first)
 
 mul-link : tie.Need-mul-link Inv-loop μ-loop
@@ -191,20 +194,20 @@ loop-again : tie.Need-loop-again Inv-loop μ-loop
 loop-again c =
     let in-loop = c .before .before .before .before .before in
     let l = in-loop .before .loop in
-    let s = in-loop .before .before .before .before .before .before .before .args in
+    let start = in-loop .before .before .before .before .before .before .before in
+    let s = start .args in
     let links = s .booking .links in
     let count = s .booking .count in
     let link = getD links (l .i) 0 in
     let node = getD (s .t1 .to) link 0 in
-    let h = next-node (c .before .before .before .before) in
-    let fits = in-loop .before .before .before .before .before .before .before .pre .1 in (
+    let h = next-node (c .before .before .before .before) in (
       omega arith,
       h,
       length-set (l .met) node true ∙ l .inv .2,
       node ∷ l .inv .3,
       marks-more (l .met) (l .inv .3) node (omega arith) (l .inv .4),
       l .inv .5
-          ∙ ap (goes-on (graph (links-of (s .t1))) (l .node) (l .inv .3)) (path-rest links count (l .i) (omega arith) (omega (arith, fits .sized, fits .few)))
+          ∙ ap (goes-on (graph (links-of (s .t1))) (l .node) (l .inv .3)) (path-rest links count (l .i) (omega arith) (omega (arith, places start, start .pre .1)))
           ∙ going-on (s .t1) link (l .node) (l .inv .3) (drop (l .i + 1) (take count links)) (c .before .before .before .before .if3 .left) (c .before .before .if4 .left)
           (sym (l .inv .4 node h) ∙ c .if5 .left),
     )
@@ -217,7 +220,7 @@ returns-6 c =
     let b = start .args .booking in
     let g = graph (links-of (start .args .t1)) in
     let path = take (b .count) (b .links) in
-    let long = path-length (b .links) (b .count) (start .pre .1 .sized) (start .pre .1 .few) in
+    let long = path-length start in
     sym (path-some g path (omega arith) (omega arith) ∙ l .inv .5 ∙ ap (goes-on g (l .node) (l .inv .3)) (drop-of-length-le path {i = l .i} (omega arith)))
 
 pub path-right-spec : {M : Type 1} → statement M
