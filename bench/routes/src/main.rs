@@ -50,10 +50,10 @@ fn on_arrays(q: &Question) -> Path {
     const NONE: u8 = u8::MAX;
     let mut first_in = [NONE; NODES];
     let mut next_in = [NONE; routes::LINKS];
-    for link in 0..q.ends.count {
+    for (link, next) in next_in.iter_mut().enumerate().take(q.ends.count) {
         if q.set.has[link] {
             let to = q.ends.to[link] as usize;
-            next_in[link] = first_in[to];
+            *next = first_in[to];
             first_in[to] = link as u8;
         }
     }

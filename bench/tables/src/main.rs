@@ -1,6 +1,7 @@
 //! Nanoseconds for putting an event in and for taking bandwidth on tables of 129 rows of 64 links, by the proved library and
 //! by plain Rust, on the same tables in one run.
 
+use std::cell::RefCell;
 use std::hint::black_box;
 use std::time::Instant;
 
@@ -10,6 +11,7 @@ use timing::compare;
 
 const CAPACITY: u32 = 1_000_000;
 const COPIES: usize = 16;
+const ROUNDS: usize = 100;
 
 /// Tables of 64 links with an event every ten minutes from 0 on.
 fn tables(events: usize, random: &mut Random) -> Tables {
@@ -28,7 +30,6 @@ fn tables(events: usize, random: &mut Random) -> Tables {
 fn compare_insertion(what: &str, table: &Tables, minutes: &[u32; COPIES]) {
     let least = |insert: &dyn Fn(&mut Tables, u32)| {
         let mut copies = vec![table.clone(); COPIES];
-        copies.iter_mut().for_each(|copy| copy.clone_from(table));
         let start = Instant::now();
         for (copy, &minute) in copies.iter_mut().zip(minutes) {
             insert(black_box(copy), black_box(minute));
@@ -50,17 +51,23 @@ fn main() {
     let spread = std::array::from_fn(|i| (10 * (i * (EVENTS - 1) / COPIES) + 5) as u32);
     compare_insertion("insertion at any row", &nearly_full, &spread);
 
-    let mut ours = tables(EVENTS, random);
-    let mut plain = ours.clone();
+    // Both take from the same tables, at several places in memory.
+    let full = tables(EVENTS, random);
+    let tables = RefCell::new(vec![full; COPIES]);
     let end = 10 * (EVENTS as u32 - 1);
-    let links = || (0..1000 * LINKS as u32).map(|i| black_box(i % LINKS as u32));
+    let all = |take: fn(&mut Tables, u32, u32)| {
+        for table in tables.borrow_mut().iter_mut() {
+            for i in 0..ROUNDS * LINKS {
+                take(black_box(table), end, black_box((i % LINKS) as u32));
+            }
+        }
+    };
     compare(
         "taking over 128 rows",
-        1000 * LINKS as u32,
-        || links().for_each(|link| black_box(&mut ours).take_bandwidth(0, end, link, 1)),
-        || links().for_each(|link| plain_take(black_box(&mut plain), 0, end, link, 1)),
+        (COPIES * ROUNDS * LINKS) as u32,
+        || all(|table, end, link| table.take_bandwidth(0, end, link, 1)),
+        || all(|table, end, link| plain_take(table, 0, end, link, 1)),
     );
-    assert_eq!(ours, plain);
 }
 
 // The plain versions are called as the library is: through a call, and not inlined here.

@@ -1,7 +1,7 @@
 -- Dropping what has ended, place by place: the front holds those that stand of the places that are passed, and the places
 -- behind are as they came.
 use mathlib.Core.Path.{_≡_, refl, sym, ap, ap₂, subst₂, _∙_}
-use mathlib.Core.List.{List, [], _∷_, _++_, map, flatten, map-append, append-assoc, append-nil}
+use mathlib.Core.List.{List, [], _∷_, _++_, flatten, map-append, append-assoc, append-nil}
 use mathlib.Core.Bool.{Bool, true, false}
 use Prim.Native.Nat.{ℕ, zero, suc, _+_, _-_, _*_, _≤_}
 use native.Mathlib.Numerals.{add-one}
@@ -93,33 +93,46 @@ module _ (clock : ℕ) (came book : List ℕ) (kept place : ℕ) (k : Kept clock
         few = omega (arith, k .few);
         count = omega (arith, k .count, ap length e, length-append (still-standing clock came place) (place-in came place ∷ []));
         front =
-            ap (λ n. take n (place-copied kept place book)) next
-            ∙ ap (take (kept * place-size + place-size)) (sym (append-assoc (take (kept * place-size) book) (place-in book place) (drop (kept * place-size + place-size) book)))
-            ∙ take-at (take (kept * place-size) book ++ place-in book place) (drop (kept * place-size + place-size) book) (kept * place-size + place-size) front-length
+            ap₂ take next split
+            ∙ take-at front rest cut front-length
             ∙ ap₂ _++_ (k .front) (as-came ∙ sym (flatten-one (place-in came place)))
             ∙ sym (flatten-append (still-standing clock came place) (place-in came place ∷ []))
             ∙ ap flatten (sym e);
         behind =
-            ap (λ n. drop n (place-copied kept place book)) far
-            ∙ sym (drop-drop ((place - kept) * place-size) (kept * place-size + place-size) (place-copied kept place book))
-            ∙ ap (drop ((place - kept) * place-size)) (ap (drop (kept * place-size + place-size)) (sym (append-assoc (take (kept * place-size) book) (place-in book place) (drop (kept * place-size + place-size) book))) ∙ drop-at (take (kept * place-size) book ++ place-in book place) (drop (kept * place-size + place-size) book) (kept * place-size + place-size) front-length)
-            ∙ drop-drop ((place - kept) * place-size) (kept * place-size + place-size) book
+            ap₂ drop far split
+            ∙ sym (drop-drop ((place - kept) * place-size) cut (front ++ rest))
+            ∙ ap (drop ((place - kept) * place-size)) (drop-at front rest cut front-length)
+            ∙ drop-drop ((place - kept) * place-size) cut book
             ∙ ap (λ n. drop n book) (sym far)
             ∙ next-behind;
       }
     where
+      cut : ℕ
+      cut = kept * place-size + place-size
+
+      front : List ℕ
+      front = take (kept * place-size) book ++ place-in book place
+
+      rest : List ℕ
+      rest = drop cut book
+
+      split : place-copied kept place book ≡ front ++ rest
+      split = sym (append-assoc (take (kept * place-size) book) (place-in book place) rest)
+
       e : still-standing clock came (place + 1) ≡ still-standing clock came place ++ (place-in came place ∷ [])
       e = standing-more clock came place (ap (stands-at clock) (sym as-came) ∙ s)
 
-      next : (kept + 1) * place-size ≡ kept * place-size + place-size
+      next : (kept + 1) * place-size ≡ cut
       next = omega arith
 
-      far : (place + 1) * place-size ≡ kept * place-size + place-size + (place - kept) * place-size
+      far : (place + 1) * place-size ≡ cut + (place - kept) * place-size
       far = omega (arith, k .few)
 
-      front-length : length (take (kept * place-size) book ++ place-in book place) ≡ kept * place-size + place-size
+      front-length : length front ≡ cut
       front-length =
-          rw length-append (omega (arith, length-take-le (kept * place-size) book (omega (arith, k .few)), length-take-le place-size (drop (place * place-size) book) (rw length-drop (omega arith))))
+          let b : kept * place-size ≤ length book = omega (arith, k .few) in
+          let p : place-size ≤ length (drop (place * place-size) book) = rw length-drop (omega arith) in
+          rw length-append (omega (arith, length-take-le (kept * place-size) book b, length-take-le place-size (drop (place * place-size) book) p))
 
   -- with zeros behind the front
   pub kept-all : place ≤ most-bookings → length book ≡ most-bookings * place-size

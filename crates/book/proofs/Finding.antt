@@ -1,14 +1,13 @@
 -- The steps of the searches for a number and for its place.
-use mathlib.Core.Path.{_≡_, refl, sym, ap, _∙_}
+use mathlib.Core.Path.{_≡_, refl}
 use mathlib.Core.List.{List, [], _∷_, map}
 use mathlib.Core.Bool.{Bool, true, false}
-use Prim.Native.Nat.{ℕ, zero, suc, _+_, _-_, _≤_, _<_}
+use Prim.Native.Nat.{ℕ, suc, _+_, _-_, _≤_, _<_}
 use native.Mathlib.Numerals.{add-one}
 use native.Mathlib.Omega.{arith}
-use lib.Dec.{leb}
 use borrow.Author.Tests.{lt-leb, le-leb}
 use Rattle.units.specs.Lists.{count-from}
-use Rattle.units.specs.Search.{Found, at, nothing, firstFrom}
+use Rattle.units.specs.Search.{at, nothing, firstFrom}
 use Rattle.units.proofs.Search.{first-here, first-after}
 use Rattle.book.specs.Places.{number-at, slot-among}
 

@@ -3,3 +3,6 @@ pub mod Finding
 pub mod Copying
 pub mod Writing
 pub mod Ended
+pub mod Reading
+pub mod Found
+pub mod Filled

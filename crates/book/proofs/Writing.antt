@@ -1,11 +1,11 @@
 -- What the parts that are lent for writing make of the whole: five figures and a path over a place, and a piece put in.
-use mathlib.Core.Path.{_≡_, sym, ap, ap₂, _∙_}
+use mathlib.Core.Path.{_≡_, ap, ap₂, _∙_}
 use mathlib.Core.List.{List, [], _∷_, _++_}
 use Prim.Native.Nat.{ℕ, _+_, _-_, _≤_}
 use native.Mathlib.Omega.{arith}
 use borrow.Rule.Slice.PartMut.{putMid}
 use lib.ListN.{length, set, take, drop, length-append, length-drop, length-set}
-use lib.Seq.{sets, sets-eq, drop-drop, take-at, drop-at, length-take-le}
+use lib.Seq.{sets-eq, drop-drop, take-at, drop-at, length-take-le}
 use Rattle.units.specs.Limits.{most-hops, place-size}
 use Rattle.units.specs.Lists.{put-in}
 use Rattle.units.proofs.Pieces.{part-back}

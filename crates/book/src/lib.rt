@@ -8,7 +8,7 @@ use units::PLACE;
 use units::clear_from;
 ghost use mathlib.Core.Path.{_≡_};
 ghost use mathlib.Core.List.{_++_};
-ghost use Prim.Native.Nat.{_+_, _-_, _*_, _≤_, _<_};
+ghost use Prim.Native.Nat.{_+_, _-_, _*_, _≤_};
 ghost use lib.ListN.{length, take, drop, replicate};
 ghost use Rattle.units.specs.Limits.{most-hops, most-bookings, place-size};
 ghost use Rattle.book.specs.Places.{booking-in, figures, find, slot, with-booking, without-place, place-in, release, stands-at, still-standing, only-places};

@@ -23,14 +23,15 @@ use Rattle.timeline.proofs.Events.{later-length}
 use Rattle.timeline.proofs.Steady.{ChangesAt}
 use Rattle.timeline.proofs.Inserted.{with-span-events, changes-more, room-of-events}
 use Rattle.free_table.specs.Figures.{table}
-use Rattle.free_table.specs.Taking.{less, less-span, enough-span}
+use Rattle.free_table.specs.Taking.{less}
+use Rattle.free_table.specs.Looking.{enough-span}
 use Rattle.free_table.proofs.Figures.{length-table}
 use Rattle.free_table.proofs.Tables.{table-with-span}
 use Rattle.free_table.proofs.Taken.{less-span-table}
 use Rattle.free_table.proofs.SpanCheck.{enough-span-early, enough-span-table}
-use Rattle.path_search.specs.Paths.{Graph, Leads, nodes, PathRight}
+use Rattle.path_search.specs.Paths.{Graph, Leads, PathRight}
 use Rattle.book.specs.declared.Booking.{Booking as Place}
-use Rattle.desk_core.specs.Plain.{Booking, Plain, until, uses, times, taken, capacity, graph, free, with-book}
+use Rattle.desk_core.specs.Plain.{Booking, Plain, until, uses, times, taken, capacity, graph, free}
 use Rattle.desk_core.specs.Calls.{put-in}
 use Rattle.desk_core.specs.Tables.{events-of, event-table, free-table, booking-of}
 use Rattle.desk_core.specs.Sound.{BookingRight}
@@ -119,11 +120,11 @@ module _ (links : List Link) (p : Plain) (b : Booking) (small : length links ≤
   few = omega (arith, events-few (put-in b p))
 
   -- the tables have room for its two events
-  pub room-left : Room (event-table p) (free-table links p) 2
+  room-left : Room (event-table p) (free-table links p) 2
   room-left = room-of-events (p .clock) (all-times p) (free-table links p) 2 (length-table (length links) (free links p) small (events-of p) (omega (arith, events-few p))) (omega (arith, events-few p))
 
   -- the events with its start and its end
-  pub events-added : with-span (b .grant .start) (until p b) (event-table p) ≡ event-table (put-in b p)
+  events-added : with-span (b .grant .start) (until p b) (event-table p) ≡ event-table (put-in b p)
   unfolding flatten
   events-added = with-span-events (p .clock) (b .grant .start) (until p b) (all-times p) most-events few
 
@@ -136,7 +137,7 @@ module _ (links : List Link) (p : Plain) (b : Booking) (small : length links ≤
     inside = path-inside (graph links) (b .grant .path) (r .path-right)
 
     -- and its bandwidth taken
-    pub free-added : less-path (with-span (b .grant .start) (until p b) (event-table p)) (b .grant .start) (until p b) (b .terms .bandwidth) (b .grant .path) (with-span-rows most-links (event-table p) (b .grant .start) (until p b) (free-table links p))
+    free-added : less-path (with-span (b .grant .start) (until p b) (event-table p)) (b .grant .start) (until p b) (b .terms .bandwidth) (b .grant .path) (with-span-rows most-links (event-table p) (b .grant .start) (until p b) (free-table links p))
         ≡ free-table links (put-in b p)
     unfolding flatten
     free-added =
@@ -180,13 +181,13 @@ module _ (links : List Link) (p : Plain) (b : Booking) (small : length links ≤
         by : Side start (p .clock) → Tells looked ((m : ℕ) → p .clock ≤ m → start ≤ m → m < until p b → b .terms .bandwidth ≤ free links p l m)
         by (below k) =
             since (p .clock) (omega arith) (omega arith) (λ m i j. i)
-            (enough-span-early (length links) (free links p) small (p .clock) ts l (b .terms .bandwidth) h start (until p b) (omega arith)
+            (enough-span-early (p .clock) ts (table (length links) (free links p) (events (p .clock) ts)) l (b .terms .bandwidth) start (until p b) (omega arith)
             ∙ enough-span-table (length links) (free links p) small (p .clock) ts l (b .terms .bandwidth) h changes (p .clock) (until p b) (omega arith) (r .still-stands))
         by (above k) =
             since start (omega arith) k (λ m i j. j) (enough-span-table (length links) (free links p) small (p .clock) ts l (b .terms .bandwidth) h changes start (until p b) k (omega (arith, r .duration-right .0)))
 
     -- what is answered
-    pub answer-added : Tells
+    answer-added : Tells
         (enough-path (with-span (b .grant .start) (until p b) (event-table p)) (b .grant .start) (until p b) (b .terms .bandwidth) (b .grant .path) (with-span-rows most-links (event-table p) (b .grant .start) (until p b) (free-table links p)))
         (Fits links p b)
     unfolding enough-path
@@ -242,13 +243,16 @@ pub record Added (links : List Link) (p : Plain) (b : Booking) (es t : List ℕ)
   pub answer-is : Tells answer (Fits links p b)
 
 module _ (links : List Link) (p : Plain) (b : Place) (can : CanAdd links p b) where
-  pub place-right : PlaceRight b
+  place-right : PlaceRight b
   place-right = record {
     start-right = can .right .start-right;
     duration-right = can .right .duration-right;
     count-right = can .count-right;
     links-right = all-map (λ l. l < length links) (λ l. l < most-links) (λ l h. let few = can .few-links in omega arith) (path-of b) (path-inside (graph links) (path-of b) (can .right .path-right));
   }
+
+  pub add-asks : Room (event-table p) (free-table links p) 2 × PlaceRight b
+  add-asks = (room-left links p (booking-of b) (can .few-links) (can .room), place-right)
 
   pub added : (es' t' : List ℕ) (answer : Bool) → Adds b (event-table p) (free-table links p) es' t' answer → Added links p (booking-of b) es' t' answer
   added es' t' answer h = record {

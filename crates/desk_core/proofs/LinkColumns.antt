@@ -1,12 +1,17 @@
 -- The list that link columns stand for: as long as the count says, and below it each link is the one of the columns.
-use mathlib.Core.Path.{_≡_, ap, _∙_}
-use mathlib.Core.List.{map}
+use mathlib.Core.Path.{_≡_, sym, ap, _∙_}
+use mathlib.Core.List.{List, map}
 use Prim.Native.Nat.{ℕ, zero, suc, _+_, _<_}
 use native.Mathlib.Omega.{arith}
 use lib.ListN.{length, getD, length-map}
+use mir.Val.{Val}
+use denote.Laws.{Is}
+use denote.Struct.Declared.{row}
+use Rattle.units.specs.Limits.{most-links}
 use Rattle.units.specs.Lists.{count-from}
 use Rattle.units.proofs.Padded.{length-count}
 use Rattle.desk_core.specs.declared.LinkTable.{LinkTable}
+use Rattle.desk_core.proofs.LinkTable.{the-type}
 use Rattle.desk_core.specs.Plain.{no-link, link, capacity, graph}
 use Rattle.desk_core.specs.LinkTables.{link-at, links-of}
 
@@ -20,6 +25,10 @@ module _ (t : LinkTable) where
   pub links-count : length (links-of t) ≡ t .count
   unfolding links-of
   links-count = length-map (count-from 0 (t .count)) (link-at t) ∙ length-count 0 (t .count)
+
+  -- the type says that there are 64 capacities
+  pub capacities-long : {vs : List Val} → Is (row the-type) t vs → length (t .capacity) ≡ most-links
+  capacities-long g = sym (length-map (t .capacity) (λ x. x)) ∙ g .1 .1 .1 .1 .1 .0 .1 .0 .1
 
   module _ (l : ℕ) (h : l < t .count) where
     pub link-column : link (links-of t) l ≡ link-at t l

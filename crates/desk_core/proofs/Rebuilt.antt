@@ -1,25 +1,25 @@
 -- Rebuilding, from the last place of the book down to the first: the tables without bookings, and one place more.
 use mathlib.Core.Path.{_≡_, refl, sym, ap, _∙_, subst}
-use mathlib.Core.List.{List, [], _∷_, map, flatten}
+use mathlib.Core.List.{List, [], map, flatten}
 use mathlib.Core.Bool.{Bool, true, _&&_}
 use Prim.Native.Nat.{ℕ, zero, suc, _+_, _-_, _*_, _≤_, _<_}
 use native.Mathlib.Omega.{arith}
-use lib.ListN.{length, getD, take, drop, length-map, length-drop}
-use lib.Seq.{length-take-le}
+use lib.ListN.{length, getD, length-map}
 use Rattle.units.specs.declared.Link.{Link}
-use Rattle.units.specs.Limits.{most-links, most-hops, most-bookings, most-events, place-size}
+use Rattle.units.specs.Limits.{most-links, most-bookings, most-events}
 use Rattle.units.specs.Lists.{sum, count-from, All}
 use Rattle.units.proofs.Tests.{Tells, _&_, Side, below, above, side}
 use Rattle.units.proofs.Padded.{length-count, length-padded}
-use Rattle.timeline.specs.Insertion.{only-clock, Room}
+use Rattle.timeline.specs.EventTable.{only-clock}
+use Rattle.timeline.specs.Insertion.{Room}
 use Rattle.timeline.proofs.Inserted.{only-clock-events}
-use Rattle.free_table.specs.Taking.{all-free}
+use Rattle.free_table.specs.Figures.{all-free}
 use Rattle.free_table.proofs.Figures.{length-table}
 use Rattle.free_table.proofs.Tables.{all-free-table}
 use Rattle.book.specs.declared.Booking.{Booking as Place}
 use Rattle.book.specs.Places.{booking-in}
 use Rattle.desk_core.specs.declared.LinkTable.{LinkTable}
-use Rattle.desk_core.specs.Plain.{Booking, Plain, until, capacity, free}
+use Rattle.desk_core.specs.Plain.{Plain, until, capacity, free}
 use Rattle.desk_core.specs.Calls.{put-in}
 use Rattle.desk_core.specs.Tables.{events-of, event-table, free-table, booking-of, booking-at, plain-in}
 use Rattle.desk_core.specs.Sound.{BookingRight}
@@ -27,7 +27,7 @@ use Rattle.desk_core.specs.LinkTables.{links-of}
 use Rattle.desk_core.specs.Rebuilding.{PlaceRight, TablesSized, NotOversold, CanRebuild}
 use Rattle.desk_core.proofs.Obeys.{right-in}
 use Rattle.desk_core.proofs.LinkColumns.{links-count, capacity-column}
-use Rattle.desk_core.proofs.Added.{events-few, room-left, oversold-added, CanAdd, Adds, Added, place-right, added}
+use Rattle.desk_core.proofs.Added.{events-few, oversold-added, CanAdd, Adds, add-asks, added}
 
 -- the tables of a plain book, and whether no link is oversold
 pub record Rebuilt (links : List Link) (p : Plain) (es t : List ℕ) (fits : Bool) : Type 0 where
@@ -51,7 +51,7 @@ module _ (links : List Link) (p : Plain) (small : length links ≤ most-links) (
 module _ (links : List Link) (p : Plain) (b : Place) (can : CanAdd links p b) {es t : List ℕ} {fits : Bool} (r : Rebuilt links p es t fits) where
   -- what `add_booking` asks
   rebuilt-asks : Room es t 2 × PlaceRight b
-  rebuilt-asks = (rw (r .events-are, r .free-are) (room-left links p (booking-of b) (can .few-links) (can .room)), place-right links p b can)
+  rebuilt-asks = rw (r .events-are, r .free-are) (add-asks links p b can)
 
   -- and what it gives, where all bookings stand
   rebuilt-gives : All (λ d. p .clock < until p d) (p .bookings) → (es' t' : List ℕ) (answer : Bool) → Adds b es t es' t' answer → Rebuilt links (put-in (booking-of b) p) es' t' (answer && fits)

@@ -13,8 +13,7 @@ use Rattle.timeline.specs.Events.{later, events}
 use Rattle.timeline.specs.Insertion.{with-row, with-span-rows}
 use Rattle.timeline.proofs.Steady.{ChangesAt}
 use Rattle.timeline.proofs.Inserted.{with-row-rows, with-span-rows-rows}
-use Rattle.free_table.specs.Figures.{row, table}
-use Rattle.free_table.specs.Taking.{all-free}
+use Rattle.free_table.specs.Figures.{row, table, all-free}
 use Rattle.free_table.proofs.Figures.{row-same, length-row}
 
 module _ (links : ℕ) (f : ℕ → ℕ → ℕ) (small : links ≤ most-links) (c : ℕ) (ts : List ℕ) (s : (l : ℕ) → l < links → ChangesAt ts (f l)) where

@@ -1,6 +1,6 @@
 -- Taking bandwidth over a span makes the table of the figures less the bandwidth on that link, in exactly the span's minutes.
 use mathlib.Core.Path.{_≡_, refl, sym, ap, ap₂, _∙_}
-use mathlib.Core.List.{List, List·Memᴰ}
+use mathlib.Core.List.{List, List·Memᴰ, List·Memᴰ·eq-of-singleton, Memᴰ·cast}
 use mathlib.Core.Bool.{Bool, true, false, _&&_}
 use Prim.Native.Nat.{ℕ, zero, suc, _+_, _-_, _*_, _≤_, _<_, zero-le}
 use native.Mathlib.Decide.{ℕ-discrete, decLt}
@@ -14,6 +14,7 @@ use Rattle.units.specs.Lists.{if-so, padded}
 use Rattle.units.proofs.Tests.{Side, below, above, side}
 use Rattle.units.proofs.Padded.{length-padded}
 use Rattle.timeline.specs.Events.{events, row-at}
+use Rattle.timeline.proofs.Steady.{ChangesAt, changes-from, changes-until}
 use Rattle.timeline.proofs.Rows.{row-later, row-inside}
 use Rattle.timeline.proofs.Places.{event, time-before}
 use Rattle.free_table.specs.Figures.{table}
@@ -159,3 +160,9 @@ module _ (links : ℕ) (f : ℕ → ℕ → ℕ) (small : links ≤ most-links) 
           omega (arith, table-column links f small (events c ts) r j h b k, table-column links (less f l bandwidth start end) small (events c ts) r j h b k)
       figure r j k (above h) s =
           omega (arith, table-past links f small (events c ts) r j h, table-past links (less f l bandwidth start end) small (events c ts) r j h)
+
+-- they change only at the times too
+pub less-changes : (f : ℕ → ℕ → ℕ) (link bandwidth start end : ℕ) {ts : List ℕ} (l : ℕ) → List·Memᴰ start ts → List·Memᴰ end ts → ChangesAt ts (f l) → ChangesAt ts (less f link bandwidth start end l)
+less-changes f link bandwidth start end {ts} l from to s e m h q =
+    ap₂ (λ x t. x - if-so t bandwidth) (s e m h q)
+    (ap₂ (λ a b. a && b && eqb l link) (changes-from start e m h (λ x i. q x (Memᴰ·cast (List·Memᴰ·eq-of-singleton i) from))) (changes-until end e m h (λ x i. q x (Memᴰ·cast (List·Memᴰ·eq-of-singleton i) to))))

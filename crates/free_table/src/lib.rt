@@ -11,8 +11,9 @@ ghost use Prim.Native.Nat.{_-_, _*_, _≤_, _<_};
 ghost use lib.ListN.{take};
 ghost use Rattle.units.specs.Limits.{most-links};
 ghost use Rattle.timeline.specs.Events.{row-at};
-ghost use Rattle.free_table.specs.Figures.{kept};
-ghost use Rattle.free_table.specs.Taking.{all-free, less-rows, less-span, enough-rows, enough-span, Sized, Capacities, WholeRows};
+ghost use Rattle.free_table.specs.Figures.{kept, all-free, Capacities};
+ghost use Rattle.free_table.specs.Taking.{less-rows, less-span, Sized, WholeRows};
+ghost use Rattle.free_table.specs.Looking.{enough-rows, enough-span};
 
 // The free table of a desk without bookings: the capacities of its links at the one event, the clock.
 #[no_mangle]
@@ -90,7 +91,7 @@ pub extern "C" fn take_bandwidth(
 }
 
 // Whether one link has the bandwidth in each of the first `rows` rows of the part.
-fn enough(part: &[u32], rows: usize, link: LinkNumber, bandwidth: Bandwidth) -> bool
+pub fn enough(part: &[u32], rows: usize, link: LinkNumber, bandwidth: Bandwidth) -> bool
     requires { ⌜ WholeRows (now part) rows (link .0) ⌝ }
     ensures { λ r. ⌜ r ≡ enough-rows rows (link .0) (bandwidth .0) (now (part .entry)) ⌝ }
 {

@@ -1,16 +1,16 @@
 -- A route depends on nothing but the count, the ends and the tests of the links below the count: upper crates replace
 -- a graph or a test by another that agrees with it there.
-use mathlib.Core.Path.{_≡_, refl, sym, _∙_, ap, ap₂}
+use mathlib.Core.Path.{_≡_, refl, _∙_, ap, ap₂}
 use mathlib.Core.List.{List, [], _∷_}
 use mathlib.Core.Bool.{Bool, true, false, _&&_}
-use Prim.Native.Nat.{ℕ, zero, suc, _+_, _≤_, _<_, zero-le}
+use Prim.Native.Nat.{ℕ, zero, suc, _+_, _≤_, _<_}
 use native.Mathlib.Nat.{le-refl}
 use native.Mathlib.Omega.{arith}
 use lib.Dec.{eqb}
 use Rattle.units.specs.Limits.{most-hops}
 use Rattle.units.specs.Search.{Found, at, nothing, firstFrom, anyBelow}
 use Rattle.units.proofs.Search.{IsFirst, firstFrom-found}
-use Rattle.path_search.specs.Paths.{Graph, Route, along, onward, reaches, lowest, fewest, route-of, route}
+use Rattle.path_search.specs.Paths.{Graph, along, onward, reaches, lowest, fewest, route-of, route}
 
 -- tests that agree on the range find the same
 pub firstFrom-agree : (p q : ℕ → Bool) (i n : ℕ) → ((k : ℕ) → i ≤ k → k < i + n → p k ≡ q k) → firstFrom i n p ≡ firstFrom i n q

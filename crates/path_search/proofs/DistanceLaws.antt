@@ -1,6 +1,6 @@
 -- The distances after n rounds: one round more makes the next ones of them, and a round that reaches no node ends them.
 use mathlib.Core.Path.{_≡_, refl, sym, _∙_, ap, subst}
-use mathlib.Core.Bool.{Bool, true, false, false≢true}
+use mathlib.Core.Bool.{Bool, true, false}
 use Prim.Native.Nat.{ℕ, zero, suc, _≤_, _<_, zero-le}
 use native.Mathlib.Nat.{le-refl}
 use native.Mathlib.Decide.{ℕ-discrete, decLt}
@@ -24,7 +24,7 @@ module _ (g : Graph) (usable : ℕ → Bool) (target : ℕ) where
     fewest-are : (d : ℕ) → d ≤ n → reached d v ≡ true → ((m : ℕ) → m < d → reached m v ≡ false) → Says n v d
     none-yet : ((m : ℕ) → m ≤ n → reached m v ≡ false) → Says n v far
 
-  pub distance-says : (n v : ℕ) → Says n v (distance g usable target n v)
+  distance-says : (n v : ℕ) → Says n v (distance g usable target n v)
   unfolding distance
   distance-says n v = by (firstFrom 0 (suc n) (λ k. reached k v)) refl
     where
@@ -34,7 +34,7 @@ module _ (g : Graph) (usable : ℕ → Bool) (target : ℕ) where
           fewest-are d (omega arith) (r .passes) (λ m a. r .before m zero-le a)
       by nothing e = none-yet (λ m a. firstFrom-none (λ k. reached k v) 0 (suc n) e m zero-le (omega arith))
 
-  pub distance-is : (n v d : ℕ) → Says n v d → distance g usable target n v ≡ d
+  distance-is : (n v d : ℕ) → Says n v d → distance g usable target n v ≡ d
   unfolding distance
   distance-is n v d (fewest-are k h r b) =
       ap figure-of (firstFrom-first (λ j. reached j v) 0 (suc n) k (record { low = zero-le; high = omega arith; passes = r; before = λ j z a. b j a }))
@@ -51,7 +51,7 @@ module _ (g : Graph) (usable : ℕ → Bool) (target : ℕ) where
 
   -- the figures are the distances after n rounds
   module _ (below : NodesBelow g (suc last-node)) (n : ℕ) (early : n ≤ last-node) (figure : ℕ → ℕ) (shown : (v : ℕ) → v ≤ last-node → figure v ≡ distance g usable target n v) where
-    says : (v : ℕ) → v ≤ last-node → Says n v (figure v)
+    pub says : (v : ℕ) → v ≤ last-node → Says n v (figure v)
     says v h = subst (Says n v) (sym (shown v h)) (distance-says n v)
 
     to-node : (l : ℕ) → l < g .count → g .to l ≤ last-node

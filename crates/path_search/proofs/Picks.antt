@@ -3,8 +3,9 @@ use mathlib.Core.Path.{_≡_, refl, sym, _∙_, ap, ap₂, subst}
 use mathlib.Core.Logic.{inl, inr}
 use mathlib.Core.List.{List, [], _∷_}
 use mathlib.Core.Bool.{Bool, true, false, _&&_, and-eq-true-iff}
-use Prim.Native.Nat.{ℕ, zero, suc, _≤_, _<_, min}
+use Prim.Native.Nat.{ℕ, zero, suc, _+_, _≤_, _<_, min}
 use native.Mathlib.Nat.{le-refl}
+use native.Mathlib.Numerals.{add-one}
 use native.Mathlib.Decide.{ℕ-discrete, decLt}
 use native.Mathlib.Omega.{arith}
 use lib.Dec.{eqb}
@@ -14,11 +15,12 @@ use Rattle.units.specs.Limits.{last-node, most-hops}
 use Rattle.units.specs.Search.{Found, at, nothing, firstFrom}
 use Rattle.units.proofs.Search.{IsFirst, firstFrom-found, firstFrom-first, firstFrom-nothing, clash, not-true, passes?}
 use Rattle.path_search.specs.Paths.{Graph, reaches, lowest, fewest, along, none, route-of, route, onward}
-use Rattle.path_search.specs.Rounds.{far, distance, least-end, nearer-link, place-of, picked}
+use Rattle.path_search.specs.Rounds.{far, distance}
+use Rattle.path_search.specs.Picks.{least-end, nearer-link, place-of, picked, Walkable}
 use Rattle.path_search.proofs.Chains.{Leaves, reaches-first, reaches-step, lowest-length}
 use Rattle.path_search.proofs.Loops.{NodesBelow}
 use Rattle.path_search.proofs.Agree.{firstFrom-agree}
-use Rattle.path_search.proofs.DistanceLaws.{Says, fewest-are, none-yet, distance-says}
+use Rattle.path_search.proofs.DistanceLaws.{Says, fewest-are, none-yet, says}
 
 module _ (g : Graph) (usable : ℕ → Bool) (figure : ℕ → ℕ) (v : ℕ) where
   abbrev pub leaves : ℕ → Bool
@@ -84,10 +86,8 @@ module _ (g : Graph) (usable : ℕ → Bool) (target : ℕ) (below : NodesBelow 
   abbrev least-of : ℕ → ℕ
   least-of v = least-end g usable figure v (g .count)
 
-  says : (l : ℕ) → l < g .count → Says g usable target last-node (g .to l) (figure (g .to l))
-  says l h =
-      let b = below .to-below l h in
-      subst (Says g usable target last-node (g .to l)) (sym (shown (g .to l) (omega arith))) (distance-says g usable target last-node (g .to l))
+  end-says : (l : ℕ) → l < g .count → Says g usable target last-node (g .to l) (figure (g .to l))
+  end-says l h = says g usable target below last-node (le-refl _) figure shown (g .to l) (let b = below .to-below l h in omega arith)
 
   -- no chain from v has fewer links than the least end tells
   no-shorter : (v i : ℕ) → i ≤ last-node → i < least-of v → reached (suc i) v ≡ false
@@ -96,7 +96,7 @@ module _ (g : Graph) (usable : ℕ → Bool) (target : ℕ) (below : NodesBelow 
       (λ t.
       let s = reaches-first g usable target i v t in
       let most = least-most g usable figure v (g .count) (s .0) (s .1 .known) (ap₂ _&&_ (eq-eqb _ _ (s .1 .begins)) (s .1 .usable)) in
-      by (figure (g .to (s .0))) (says (s .0) (s .1 .known)) (s .2) most)
+      by (figure (g .to (s .0))) (end-says (s .0) (s .1 .known)) (s .2) most)
     where
       by : {w : ℕ} (d : ℕ) → Says g usable target last-node w d → reached i w ≡ true → least-of v ≤ d → ⊥
       by d (fewest-are m a r b) t most = clash t (b i (omega arith))
@@ -111,7 +111,7 @@ module _ (g : Graph) (usable : ℕ → Bool) (target : ℕ) (below : NodesBelow 
     least-reached =
         let s = least-found g usable figure v (g .count) (omega arith) in
         let o = and-eq-true-iff (eqb (g .from (s .0)) v) (usable (s .0)) .0 (s .2) in
-        reaches-step g usable target (least-of v) v (s .0) (record { known = s .1; begins = eqb-true _ _ (o .0); usable = o .1 }) (by (figure (g .to (s .0))) (says (s .0) (s .1)) (s .3))
+        reaches-step g usable target (least-of v) v (s .0) (record { known = s .1; begins = eqb-true _ _ (o .0); usable = o .1 }) (by (figure (g .to (s .0))) (end-says (s .0) (s .1)) (s .3))
       where
         by : {w : ℕ} (d : ℕ) → Says g usable target last-node w d → d ≡ least-of v → reached (least-of v) w ≡ true
         by {w} d (fewest-are m a r b) e = subst (λ j. reached j w ≡ true) e r
@@ -130,7 +130,7 @@ module _ (g : Graph) (usable : ℕ → Bool) (target : ℕ) (below : NodesBelow 
   -- from v on, n are the fewest links, so an end is at n - 1 links exactly where its figure says so
   module _ (n v : ℕ) (few : suc n ≤ most-hops) (least : (j : ℕ) → 1 ≤ j → j < suc n → reached j v ≡ false) where
     figure-tells : (l : ℕ) → Leaves g (λ k. usable k ≡ true) v l → eqb (figure (g .to l)) n ≡ reached n (g .to l)
-    figure-tells l o = by (figure (g .to l)) (says l (o .known))
+    figure-tells l o = by (figure (g .to l)) (end-says l (o .known))
       where
         by : (d : ℕ) → Says g usable target last-node (g .to l) d → eqb d n ≡ reached n (g .to l)
         by d (fewest-are m a r b) =
@@ -173,17 +173,25 @@ module _ (g : Graph) (usable : ℕ → Bool) (target : ℕ) (below : NodesBelow 
       by ih nothing e = refl
 
   -- the least end tells the route
-  module _ (v : ℕ) (few : least-of v < most-hops) where
-    route-picked : picked g usable figure (suc (least-of v)) v ≡ lowest g usable target (suc (least-of v)) v
-    route-picked = picked-is (suc (least-of v)) v few (least-reached v few) (λ j a b. before v (least-of v) (omega arith) (le-refl _) j a (omega arith))
+  module _ (v n : ℕ) (e : n ≡ least-of v) where
+    next : suc (least-of v) ≡ n + 1
+    next = ap suc (sym e) ∙ sym (add-one n)
 
-    pub walk-long : length (picked g usable figure (suc (least-of v)) v) ≡ suc (least-of v)
-    walk-long = ap length route-picked ∙ lowest-length g usable target (suc (least-of v)) v (least-reached v few)
+    picked-lowest : least-of v < most-hops → picked g usable figure (suc (least-of v)) v ≡ lowest g usable target (suc (least-of v)) v
+    picked-lowest few = picked-is (suc (least-of v)) v few (least-reached v few) (λ j a b. before v (least-of v) (omega arith) (le-refl _) j a (omega arith))
 
-    pub route-is : route g usable target v ≡ along (picked g usable figure (suc (least-of v)) v)
+    pub walkable : n < most-hops → Walkable g usable figure (n + 1) v
+    walkable h =
+        let few : least-of v < most-hops = omega arith in
+        let long = ap length (picked-lowest few) ∙ lowest-length g usable target (suc (least-of v)) v (least-reached v few) in
+        record { few = omega arith; all = subst (λ k. length (picked g usable figure k v) ≡ k) next long }
+
+    pub route-is : n < most-hops → route g usable target v ≡ along (picked g usable figure (n + 1) v)
     unfolding route
-    route-is = ap (route-of g usable target v) (fewest-is v few) ∙ ap along (sym route-picked)
+    route-is h =
+        let few : least-of v < most-hops = omega arith in
+        ap (route-of g usable target v) (fewest-is v few) ∙ ap along (sym (picked-lowest few) ∙ ap (λ k. picked g usable figure k v) next)
 
-  pub route-none : (v : ℕ) → most-hops ≤ least-of v → route g usable target v ≡ none
-  unfolding route
-  route-none v h = ap (route-of g usable target v) (fewest-none v h)
+    pub route-none : most-hops ≤ n → route g usable target v ≡ none
+    unfolding route
+    route-none h = ap (route-of g usable target v) (fewest-none v (omega arith))

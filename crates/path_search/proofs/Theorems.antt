@@ -1,22 +1,24 @@
--- The theorems on the answer, with no search in what they say. From a node to another one, over links in range:
--- the answer is right; there is a route exactly where some chain leads there; 31 links are enough; one answer is right.
+-- The theorems on the answer, with no search in what they say. From a node to another one, over links in range: the answer
+-- is right; it has a link exactly where some chain leads there; 31 links are enough; one answer is right.
 use mathlib.Core.Path.{_≡_, refl, sym, ap, subst}
 use mathlib.Core.Logic.{_≢_, _↔_}
-use mathlib.Core.List.{List, []}
+use mathlib.Core.List.{List, [], _∷_}
 use mathlib.Core.Bool.{Bool, true}
 use Prim.Native.Nat.{ℕ, suc, _-_, _≤_}
+use native.Mathlib.Decide.{decLe}
 use native.Mathlib.Omega.{arith}
 use lib.ListN.{length, take, replicate}
 use lib.Seq.{take-append-seam}
 use Rattle.units.specs.Limits.{last-node, most-hops}
 use Rattle.units.specs.Lists.{Within, padded}
+use Rattle.units.proofs.Search.{firstFrom-nothing, not-true}
 use Rattle.path_search.specs.declared.LinkEnds.{LinkEnds}
 use Rattle.path_search.specs.declared.LinkSet.{LinkSet}
 use Rattle.path_search.specs.declared.Path.{Path}
-use Rattle.path_search.specs.Paths.{Graph, Route, route}
+use Rattle.path_search.specs.Paths.{Graph, Route, none, reaches, fewest, route-of, route}
 use Rattle.path_search.specs.Answer.{InRange, graph, usable, path-of, answer}
 use Rattle.path_search.specs.Right.{Joins, Chosen, Right, chosen, no-chain}
-use Rattle.path_search.proofs.Chains.{Way}
+use Rattle.path_search.proofs.Chains.{Way, reaches-iff}
 use Rattle.path_search.proofs.Loops.{NodesBelow}
 use Rattle.path_search.proofs.Routes.{IsRoute, is-route-only, is-route-distinct, RouteView, found, no-chain as no-way, route-view}
 use Rattle.path_search.proofs.Paths.{chain-leads, route-path}
@@ -37,9 +39,21 @@ module _ (g : Graph) (usable : ℕ → Bool) (source destination : ℕ) where
         lowest = λ other w. c .lower other (way-joins other w);
       }
 
-  module _ (apart : source ≢ destination) (below : NodesBelow g (suc last-node)) (node : source ≤ last-node) where
-    route-chosen : (path : List ℕ) → IsRoute g usable destination source path → Chosen g usable source destination path
-    route-chosen path r =
+  module _ (apart : source ≢ destination) (below : NodesBelow g (suc last-node)) where
+    -- no link begins at a node above 31
+    none-above : ¬ (source ≤ last-node) → (path : List ℕ) → ¬ Joins g usable source destination path
+    none-above h [] j = apart (j .0)
+    none-above h (l ∷ path) j = let b = below .from-below l (j .0 .0) in let e : g .from l ≡ source = j .0 .1 in h (omega arith)
+
+    route-above : ¬ (source ≤ last-node) → route g usable destination source ≡ none
+    unfolding route fewest
+    route-above h =
+        ap (route-of g usable destination source)
+        (firstFrom-nothing (λ n. reaches g usable destination n source) 1 most-hops
+        (λ n a b. not-true (reaches g usable destination n source) (λ t. let r = reaches-iff g usable destination n source .0 t in none-above h (r .0) (way-joins (r .0) (r .2)))))
+
+    route-chosen : source ≤ last-node → (path : List ℕ) → IsRoute g usable destination source path → Chosen g usable source destination path
+    route-chosen node path r =
         record {
           joins = way-joins path (r .chain);
           fewest = λ other j. r .fewest other (joins-way other j);
@@ -50,11 +64,15 @@ module _ (g : Graph) (usable : ℕ → Bool) (source destination : ℕ) where
 
     -- the search answers right
     pub answer-right : Right g usable source destination (answer (route g usable destination source))
-    answer-right = by (route g usable destination source) (route-view g usable destination source apart below node)
+    answer-right =
+        elim (decLe source last-node) [
+          | yes node ↦ by node (route g usable destination source) (route-view g usable destination source apart below node)
+          | no h ↦ subst (λ r. Right g usable source destination (answer r)) (sym (route-above h)) (no-chain (none-above h))
+        ]
       where
-        by : (r : Route) → RouteView g usable destination source apart below node r → Right g usable source destination (answer r)
-        by r (found path i) = chosen path (route-chosen path i)
-        by r (no-way h) = no-chain (λ path j. h path (joins-way path j))
+        by : (node : source ≤ last-node) (r : Route) → RouteView g usable destination source apart below node r → Right g usable source destination (answer r)
+        by node r (found path i) = chosen path (route-chosen node path i)
+        by node r (no-way h) = no-chain (λ path j. h path (joins-way path j))
 
     -- where a chain of any length leads to the destination, one of 1 to 31 links does
     pub few-enough : (path : List ℕ) → Joins g usable source destination path → (few : List ℕ) × Joins g usable source destination few × Within 1 most-hops (length few)
@@ -85,7 +103,7 @@ module _ (g : Graph) (usable : ℕ → Bool) (source destination : ℕ) where
   right-only r s (no-chain h) (no-chain k) = refl
 
 -- what `find_route` promises is the right answer
-pub find-route-right : (ends : LinkEnds) (set : LinkSet) (source destination : ℕ) → InRange ends → source ≤ last-node → source ≢ destination → (r : Path)
+pub find-route-right : (ends : LinkEnds) (set : LinkSet) (source destination : ℕ) → InRange ends → source ≢ destination → (r : Path)
     → r ≡ answer (route (graph ends) (usable set) destination source) → Right (graph ends) (usable set) source destination r
-find-route-right ends set source destination in-range node apart r e =
-    subst (Right (graph ends) (usable set) source destination) (sym e) (answer-right (graph ends) (usable set) source destination apart (nodes-below ends in-range) node)
+find-route-right ends set source destination in-range apart r e =
+    subst (Right (graph ends) (usable set) source destination) (sym e) (answer-right (graph ends) (usable set) source destination apart (nodes-below ends in-range))

@@ -1,4 +1,5 @@
 pub mod Paths
 pub mod Rounds
+pub mod Picks
 pub mod Answer
 pub mod Right

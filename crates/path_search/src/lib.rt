@@ -10,7 +10,8 @@ ghost use lib.Dec.{eqb, ltb};
 ghost use Rattle.units.specs.Limits.{last-node};
 ghost use Rattle.units.specs.Search.{anyBelow};
 ghost use Rattle.path_search.specs.Paths.{route};
-ghost use Rattle.path_search.specs.Rounds.{Shows, figures, before-rounds, distance, nearer, spread, least-end, nearer-link, place-of, picked, Walkable};
+ghost use Rattle.path_search.specs.Rounds.{Shows, figures, before-rounds, distance, nearer, spread};
+ghost use Rattle.path_search.specs.Picks.{least-end, nearer-link, place-of, picked, Walkable};
 ghost use Rattle.path_search.specs.Answer.{InRange, graph, usable, path-of, answer};
 use units::LAST_NODE;
 use units::LINKS;
@@ -22,6 +23,9 @@ const NODES: usize = PATH_LINKS + 1;
 
 // The most links of a path, as a figure.
 const MOST: u32 = PATH_LINKS as u32;
+
+// The most rounds that can reach a node.
+const ROUNDS: u32 = LAST_NODE;
 
 // The figure of a node from which no chain is known.
 const FAR: u32 = LAST_NODE + 1;
@@ -73,7 +77,8 @@ fn round(ends: LinkEnds, set: LinkSet, table: [u32; NODES], near: u32) -> AfterR
     while link < count {
         let from = ends.from[link] as usize;
         let to = ends.to[link] as usize;
-        if leads_nearer(set.has[link], after[to], after[from], near) {
+        let usable = set.has[link];
+        if leads_nearer(usable, after[to], after[from], near) {
             after[from] = near + 1;
             reached = true;
         }
@@ -104,7 +109,7 @@ fn distances(ends: LinkEnds, set: LinkSet, destination: u32) -> [u32; NODES]
 {
     let mut table = start(destination);
     let mut near = 0;
-    while near < LAST_NODE {
+    while near < ROUNDS {
         let after = round(ends, set, table, near);
         table = after.table;
         if !after.reached {
@@ -158,18 +163,18 @@ fn nearer_link(
     requires { ⌜ InRange ends ⌝ }
     ensures { λ r. ⌜ r .0 ≡ place-of (ends .count) (nearer-link (graph ends) (usable set) (figures table) node near) ⌝ }
 {
-    let count = ends.count;
+    let mut found = ends.count;
     let mut link = 0;
-    while link < count {
+    while link < found {
         if leaves(ends.from[link], node, set.has[link]) {
             let to = ends.to[link] as usize;
             if table[to] == near {
-                return LinkNumber(link as u32);
+                found = link;
             }
         }
         link += 1;
     }
-    LinkNumber(count as u32)
+    LinkNumber(found as u32)
 }
 
 // The path of `count` links from the source on, each the lowest to a node whose figure is one less.
@@ -202,6 +207,7 @@ fn no_path() -> Path
 }
 
 // The path of fewest usable links from the source to the destination, the lowest of these; no link where there is none.
+// It is exported so that a test in Rust can call it.
 #[no_mangle]
 pub extern "C" fn find_route(ends: LinkEnds, set: LinkSet, source: u32, destination: u32) -> Path
     requires { ⌜ InRange ends ⌝ }

@@ -10,7 +10,8 @@ use lib.ListN.{length, getD, take, drop, length-append, length-take, length-drop
 use borrow.Author.Tests.{lt-ltb, le-ltb, ltb-true}
 use Rattle.units.specs.Limits.{most-events}
 use Rattle.timeline.specs.Events.{further, passed, row-at}
-use Rattle.timeline.specs.Insertion.{filled, count-events, put-in, missing, if-missing, with-event, with-row, Room}
+use Rattle.timeline.specs.EventTable.{filled, count-events}
+use Rattle.timeline.specs.Insertion.{put-in, missing, if-missing, with-event, with-row, Room}
 use Rattle.timeline.proofs.Pieces.{put-in-part}
 
 -- ---- the row that holds is one of the events

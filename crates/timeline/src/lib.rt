@@ -9,25 +9,26 @@ ghost use Prim.Native.Nat.{_+_, _-_, _≤_};
 ghost use lib.ListN.{length, take, replicate};
 ghost use Rattle.units.specs.Limits.{most-links, most-events};
 ghost use Rattle.timeline.specs.Events.{row-at};
-ghost use Rattle.timeline.specs.Insertion.{count-events, only-clock, put-in, with-event, with-row, with-span, with-span-rows, Room};
+ghost use Rattle.timeline.specs.EventTable.{count-events, only-clock};
+ghost use Rattle.timeline.specs.Insertion.{put-in, with-event, with-row, with-span, with-span-rows, Room};
 
 // The row that holds in a minute: that of the last event at or before it, or the first one where there is none.
 #[no_mangle]
 pub extern "C" fn row_at(events: &[u32], minute: Minute) -> usize
     ensures { λ r. ⌜ r ≡ row-at (now (events .entry)) (minute .0) ⌝ }
 {
-    let mut row = 0;
-    while row + 1 < events.len() {
-        let next = events[row + 1];
-        if next == 0 {
-            return row;
+    let mut next = 1;
+    while next < events.len() {
+        let event = events[next];
+        if event == 0 {
+            return next - 1;
         }
-        if minute.0 < next {
-            return row;
+        if minute.0 < event {
+            return next - 1;
         }
-        row += 1;
+        next += 1;
     }
-    row
+    next - 1
 }
 
 // How many events the table holds: the clock, and those up to the first zero behind it.

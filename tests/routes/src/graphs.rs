@@ -10,7 +10,7 @@ impl Random {
         Random(seed)
     }
 
-    pub fn next(&mut self) -> u64 {
+    pub fn draw(&mut self) -> u64 {
         self.0 = self.0.wrapping_add(0x9e37_79b9_7f4a_7c15);
         let mut z = self.0;
         z = (z ^ (z >> 30)).wrapping_mul(0xbf58_476d_1ce4_e5b9);
@@ -20,7 +20,7 @@ impl Random {
 
     /// A number below n.
     pub fn below(&mut self, n: u64) -> u64 {
-        self.next() % n
+        self.draw() % n
     }
 
     pub fn one_in(&mut self, n: u64) -> bool {
@@ -37,14 +37,15 @@ pub enum Shape {
     Line,
     /// Few pairs of nodes, so that many links are parallel.
     Parallel,
-    /// Every link leads into the source or out of the destination, or joins two other nodes.
+    /// Two links in three lead into the source or out of the destination.
     Against,
 }
 
 pub const SHAPES: [Shape; 4] = [Shape::Any, Shape::Line, Shape::Parallel, Shape::Against];
 
-/// A question of 2 to 32 nodes and 1 to 64 links, half of them of 49 links or more, and half with every link usable. Places past the last link hold any number. One in 16 asks for the way
-/// from a node back to itself, and one in 64 for a node that no link can have.
+/// A question of 2 to 32 nodes and 1 to 64 links. Half have 49 links or more, and half have every
+/// link usable. Places past the last link hold any number. Some ask for the way from a node back to
+/// itself, and one in 64 for a node that no link can have.
 pub fn question(seed: u64) -> Question {
     let mut random = Random::new(seed);
     let shape = SHAPES[random.below(4) as usize];
@@ -70,7 +71,7 @@ pub fn question(seed: u64) -> Question {
         let (from, to) = if link < count {
             link_of(&mut random, shape, nodes, link as u64, source, destination)
         } else {
-            (random.next() >> 32, random.next() >> 32)
+            (random.draw() >> 32, random.draw() >> 32)
         };
         ends.from[link] = from as u32;
         ends.to[link] = to as u32;

@@ -22,13 +22,7 @@ mod exported {
         pub fn reset_events(events: *mut u32, events_len: usize, clock: u32);
         pub fn insert_event(events: *mut u32, events_len: usize, rows: *mut u32, rows_len: usize, minute: u32);
         pub fn insert_span(events: *mut u32, events_len: usize, rows: *mut u32, rows_len: usize, start: u32, end: u32);
-        pub fn reset_free(
-            free: *mut u32,
-            free_len: usize,
-            capacities: *const u32,
-            capacities_len: usize,
-            links: usize,
-        );
+        pub fn reset_free(free: *mut u32, free_len: usize, capacities: *const u32, capacities_len: usize, links: usize);
         pub fn free_figure(
             events: *const u32,
             events_len: usize,

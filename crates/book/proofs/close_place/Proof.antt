@@ -1,12 +1,11 @@
 -- `close_place` meets its contract: each of the first i figures is the one that stood a place behind it.
-use mathlib.Core.Path.{_≡_, refl, sym, ap, ap₂, _∙_}
+use mathlib.Core.Path.{_≡_, refl, ap, ap₂, _∙_}
 use mathlib.Core.List.{List, _++_}
 use Prim.Native.Nat.{ℕ, _+_, _-_, _≤_}
 use native.Mathlib.Omega.{arith}
-use lib.ListN.{length, getD, set, take, drop, replicate, length-drop, length-set}
-use lib.Seq.{getD-drop, take-all, take-at}
+use lib.ListN.{length, getD, set, take, drop, replicate, length-set}
 use Rattle.units.specs.Limits.{place-size}
-use Rattle.book.proofs.Copying.{copied, copied-more, copied-ahead}
+use Rattle.book.proofs.Copying.{copied, copied-on, copied-all}
 use Rattle.book.proofs.close_place.Statement.{statement}
 use Rattle.book.proofs.close_place.Tie as tie
 
@@ -47,16 +46,7 @@ loop-again : tie.Need-loop-again Inv-loop μ-loop
 loop-again c =
     let l = c .before .before .loop in
     let part = c .before .before .before .before .args .part .now in
-    let e : place-size + l .i ≡ l .i + place-size = omega arith in
-    let d : length (drop place-size part) ≡ length part - place-size = length-drop place-size part in (
-      omega arith,
-      (
-        simp length-set (omega arith),
-        ap (λ (t : List ℕ). set t (l .i) (getD t (l .i + place-size) 0)) (l .inv .1 .1)
-            ∙ ap (set (copied (l .i) (drop place-size part) part) (l .i)) (copied-ahead (l .i) (l .i + place-size) (drop place-size part) part (omega arith) (omega arith) ∙ ap (λ n. getD part n 0) (sym e) ∙ sym (getD-drop place-size part (l .i) 0))
-            ∙ copied-more (l .i) (drop place-size part) part (omega arith) (omega arith),
-      ),
-    )
+    (omega arith, (simp length-set (omega arith), ap (λ (t : List ℕ). set t (l .i) (getD t (l .i + place-size) 0)) (l .inv .1 .1) ∙ copied-on place-size (l .i) part (omega arith)))
 
 clear-from-requires : tie.Need-clear-from-requires Inv-loop μ-loop
 clear-from-requires c κs = omega arith
@@ -69,11 +59,10 @@ returns c =
     let l = c .before .before .before .before .before .loop in
     let part = c .before .before .before .before .before .before .before .args .part .now in
     let kept = length part - place-size in
-    let d : length (drop place-size part) ≡ kept = length-drop place-size part in
     let e : l .i ≡ kept = omega arith in
     let z : length (l .part) - kept ≡ place-size = omega arith in
-    c .before .before .clear-from .ensures
-    ∙ ap₂ (λ (t : List ℕ) n. t ++ replicate n 0) (ap (take kept) (l .inv .1 .1 ∙ ap (λ i. copied i (drop place-size part) part) e) ∙ ap (λ (t : List ℕ). take kept (t ++ drop kept part)) (take-all kept (drop place-size part) (omega arith)) ∙ take-at (drop place-size part) (drop kept part) kept d) z
+    let down = ap (take kept) (l .inv .1 .1 ∙ ap (λ i. copied i (drop place-size part) part) e) ∙ copied-all place-size part (omega arith) in
+    c .before .before .clear-from .ensures ∙ ap₂ (λ (t : List ℕ) n. t ++ replicate n 0) down z
 
 pub close-place-spec : {M : Type 1} → statement M
 close-place-spec =

@@ -1,19 +1,19 @@
 -- `copy_place` meets its contract: the first i figures are copied, and those not yet reached are as they came.
-use mathlib.Core.Path.{_≡_, refl, sym, ap, _∙_}
+use mathlib.Core.Path.{_≡_, refl, ap, _∙_}
 use mathlib.Core.List.{List, append-assoc}
 use Prim.Native.Nat.{ℕ, _+_, _-_, _*_, _≤_}
-use native.Mathlib.Nat.{mul-le-mul-right}
 use native.Mathlib.Omega.{arith}
-use lib.ListN.{length, getD, set, take, drop, length-drop, length-set}
-use lib.Seq.{paste, paste-zero, getD-drop}
+use lib.ListN.{length, getD, set, take, drop, length-set}
+use lib.Seq.{paste, paste-zero}
 use Rattle.units.specs.Limits.{place-size}
 use Rattle.book.specs.Places.{place-in}
-use Rattle.book.proofs.Copying.{paste-more, paste-ahead}
+use Rattle.book.proofs.Copying.{paste-on}
 use Rattle.book.proofs.copy_place.Statement.{statement}
 use Rattle.book.proofs.copy_place.Tie as tie
 
 abbrev Inv-loop : tie.InvT-loop
-Inv-loop book₀ to from source target i₀ book i = (source ≡ from * place-size) × ((target ≡ to * place-size) × ((i ≤ place-size) × ((length book ≡ length book₀) × (book ≡ paste book₀ target (drop source book₀) i))))
+Inv-loop book₀ to from source target i₀ book i =
+    (source ≡ from * place-size) × ((target ≡ to * place-size) × ((i ≤ place-size) × ((length book ≡ length book₀) × (book ≡ paste book₀ target (drop source book₀) i))))
 
 abbrev μ-loop : tie.MeasureT-loop
 μ-loop book₀ to from source target i₀ book i = place-size - i
@@ -55,25 +55,10 @@ loop-again : tie.Need-loop-again Inv-loop μ-loop
 loop-again c =
     let l = c .before .before .loop in
     let a = c .before .before .before .args in
-    let book = a .book .now in
     let source = a .from * place-size in
     let target = a .to * place-size in
-    let d : length (drop source book) ≡ length book - source = length-drop source book in
-    let o : target ≤ source = mul-le-mul-right place-size (c .before .before .before .pre .0) in (
-      refl,
-      (
-        refl,
-        (
-          omega arith,
-          (
-            simp length-set (omega arith),
-            ap (λ (t : List ℕ). set t (target + l .i) (getD t (source + l .i) 0)) (l .inv .1 .1 .1 .1)
-                ∙ ap (set (paste book target (drop source book) (l .i)) (target + l .i)) (paste-ahead book target (drop source book) (l .i) (source + l .i) (omega arith) (omega arith) (omega arith) ∙ sym (getD-drop source book (l .i) 0))
-                ∙ paste-more book target (drop source book) (l .i) (omega arith) (omega arith),
-          ),
-        ),
-      ),
-    )
+    let step = ap (λ (t : List ℕ). set t (target + l .i) (getD t (source + l .i) 0)) (l .inv .1 .1 .1 .1) ∙ paste-on (a .book .now) target source (l .i) (omega arith) (omega arith) in
+    (refl, (refl, (omega arith, (simp length-set (omega arith), step))))
 
 same-length : tie.Need-same-length Inv-loop μ-loop
 same-length c = omega arith
@@ -83,8 +68,11 @@ returns c =
     let l = c .before .loop in
     let a = c .before .before .args in
     let book = a .book .now in
+    let target = a .to * place-size in
     let e : l .i ≡ place-size = omega arith in
-    l .inv .1 .1 .1 .1 ∙ ap (paste book (a .to * place-size) (drop (a .from * place-size) book)) e ∙ append-assoc (take (a .to * place-size) book) (place-in book (a .from)) (drop (a .to * place-size + place-size) book)
+    l .inv .1 .1 .1 .1
+    ∙ ap (paste book target (drop (a .from * place-size) book)) e
+    ∙ append-assoc (take target book) (place-in book (a .from)) (drop (target + place-size) book)
 
 pub copy-place-spec : {M : Type 1} → statement M
 copy-place-spec =

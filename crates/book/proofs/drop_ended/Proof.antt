@@ -1,7 +1,7 @@
 -- `drop_ended` meets its contract: the places that are passed and stand are at the front, and those behind are as they came.
 use mathlib.Core.Path.{_≡_, sym, ap, _∙_}
 use mathlib.Core.Logic.{⊎-elim}
-use Prim.Native.Nat.{_+_, _-_, _≤_}
+use Prim.Native.Nat.{_-_, _≤_}
 use native.Mathlib.Omega.{arith}
 use lib.ListN.{length}
 use Rattle.book.specs.Places.{still-standing, only-places}
@@ -38,9 +38,11 @@ loop-again c =
     let l = c .before .before .before .before .loop in
     let a = c .before .before .before .before .before .before .args in
     let s = c .before .stands in
+    let more = kept-more (a .clock .0) (a .book .now) (l .book) (l .kept) (l .place) (l .inv .1 .1) in
+    let same = kept-same (a .clock .0) (a .book .now) (l .book) (l .kept) (l .place) (l .inv .1 .1) in
     ⊎-elim
-    (λ w. (omega arith, (omega (arith, ap length (w .5)), kept-as (w .5 ∙ w .2 .ensures) (w .6) (kept-more (a .clock .0) (a .book .now) (l .book) (l .kept) (l .place) (l .inv .1 .1) (sym (s .ensures) ∙ w .0 .taken) (omega arith)))))
-    (λ w. (omega arith, (omega (arith, ap length (w .1)), kept-as (w .1) (w .2) (kept-same (a .clock .0) (a .book .now) (l .book) (l .kept) (l .place) (l .inv .1 .1) (sym (s .ensures) ∙ w .0 .left)))))
+    (λ w. (omega arith, (omega (arith, ap length (w .5)), kept-as (w .5 ∙ w .2 .ensures) (w .6) (more (sym (s .ensures) ∙ w .0 .taken) (omega arith)))))
+    (λ w. (omega arith, (omega (arith, ap length (w .1)), kept-as (w .1) (w .2) (same (sym (s .ensures) ∙ w .0 .left)))))
     (c .if1 .came)
 
 mul-clear-from : tie.Need-mul-clear-from Inv-loop μ-loop

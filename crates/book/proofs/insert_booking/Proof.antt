@@ -50,9 +50,10 @@ returns : tie.Need-returns
 unfolding with-booking
 returns c =
     let a = c .before .before .before .before .before .before .before .before .before .args in
+    let opened = c .before .before .before .before .before .before .open-place in
+    let written = c .before .before .write-place in
     let path : length (a .booking .links) ≡ most-hops = search needs in
-    put-over (a .place * place-size) place-size (a .book .now) (c .before .before .before .before .before .before .open-place .last .0) (c .before .before .write-place .last .0) (figures (a .booking)) (omega arith) (omega arith)
-    (c .before .before .before .before .before .before .open-place .ensures) (c .before .before .write-place .ensures)
+    put-over (a .place * place-size) place-size (a .book .now) (opened .last .0) (written .last .0) (figures (a .booking)) (omega arith) (omega arith) (opened .ensures) (written .ensures)
 
 pub insert-booking-spec : {M : Type 1} → statement M
 insert-booking-spec =

@@ -1,9 +1,9 @@
 -- `path_at` meets its contract: the first i places are copied.
 use mathlib.Core.Path.{_≡_, refl, sym, ap, ap₂, _∙_}
 use mathlib.Core.List.{List, append-nil}
-use Prim.Native.Nat.{ℕ, _+_, _-_, _≤_}
+use Prim.Native.Nat.{ℕ, _-_, _≤_}
 use native.Mathlib.Omega.{arith}
-use lib.ListN.{length, drop, set, take, replicate, length-drop}
+use lib.ListN.{drop, set, take, replicate, length-drop}
 use lib.Seq.{getD-drop}
 use Rattle.units.specs.Limits.{most-hops}
 use Rattle.book.proofs.Copying.{copied, copied-more}

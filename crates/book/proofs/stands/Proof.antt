@@ -1,13 +1,10 @@
 -- `stands` meets its contract: the two figures that it reads are those of the place.
-use mathlib.Core.Path.{_≡_, sym, ap, ap₂, _∙_}
-use Prim.Native.Nat.{ℕ, _+_, _*_, _<_}
+use mathlib.Core.Path.{ap, ap₂, _∙_}
 use native.Mathlib.Omega.{arith}
 use borrow.Author.Needs.{needs}
 use lib.Dec.{ltb}
-use lib.ListN.{getD, drop}
-use lib.Seq.{getD-take, getD-drop}
-use Rattle.units.specs.Limits.{place-size}
-use Rattle.book.specs.Places.{place-in, release}
+use Rattle.book.specs.Places.{release}
+use Rattle.book.proofs.Reading.{figure-in}
 use Rattle.book.proofs.stands.Statement.{statement}
 use Rattle.book.proofs.stands.Tie as tie
 
@@ -41,8 +38,7 @@ release-requires c κs = search needs
 returns : tie.Need-returns
 returns c =
     let a = c .before .before .before .before .before .args in
-    let book = a .book .now in
-    let figure : (k : ℕ) → k < place-size → getD book (a .place * place-size + k) 0 ≡ getD (place-in book (a .place)) k 0 = λ k h. sym (getD-take place-size (drop (a .place * place-size) book) k 0 h ∙ getD-drop (a .place * place-size) book k 0) in
+    let figure = figure-in (a .book .now) (a .place) in
     ap (ltb (a .clock .0)) (c .release .ensures ∙ ap₂ release (figure 1 (omega arith)) (figure 2 (omega arith)))
 
 pub stands-spec : {M : Type 1} → statement M

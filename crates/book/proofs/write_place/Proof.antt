@@ -39,7 +39,9 @@ write-path-requires c κs = rw length-rest (simp length-set (omega arith))
 returns : tie.Need-returns
 returns c =
     let a = c .before .before .before .before .before .before .args in
-    place-written (a .part .now) (c .before .before .write-path .last .0) (a .booking .links) (a .booking .number) (a .booking .start .0) (a .booking .duration .0) (a .booking .bandwidth .0) (a .booking .count) (omega arith) (c .before .before .write-path .ensures)
+    let b = a .booking in
+    let w = c .before .before .write-path in
+    place-written (a .part .now) (w .last .0) (b .links) (b .number) (b .start .0) (b .duration .0) (b .bandwidth .0) (b .count) (omega arith) (w .ensures)
 
 same-length : tie.Need-same-length
 same-length c =

@@ -2,7 +2,7 @@
 use mathlib.Core.Path.{_≡_, sym, _∙_}
 use Prim.Native.Nat.{_-_, _≤_}
 use native.Mathlib.Omega.{arith}
-use Rattle.free_table.specs.Taking.{enough-rows}
+use Rattle.free_table.specs.Looking.{enough-rows}
 use Rattle.free_table.proofs.Steps.{enough-from, enough-all, enough-short, enough-next, enough-done}
 use Rattle.free_table.proofs.enough.Statement.{statement}
 use Rattle.free_table.proofs.enough.Tie as tie

@@ -5,7 +5,7 @@ use Prim.Native.Nat.{_-_, _*_, _≤_}
 use native.Mathlib.Omega.{arith}
 use lib.ListN.{length, getD, set, take, drop, length-set}
 use Rattle.units.specs.Limits.{most-links, most-events}
-use Rattle.free_table.specs.Taking.{all-free}
+use Rattle.free_table.specs.Figures.{all-free}
 use Rattle.free_table.proofs.Steps.{copied-more, copied-cleared}
 use Rattle.free_table.proofs.reset_free.Statement.{statement}
 use Rattle.free_table.proofs.reset_free.Tie as tie

@@ -1,21 +1,17 @@
 -- distances meets its contract. The table shows the distances after `near` rounds.
-use mathlib.Core.Path.{_≡_, refl, sym, _∙_, ap}
-use Prim.Native.Nat.{ℕ, suc, _+_, _-_, _≤_, _<_, zero-le}
+use mathlib.Core.Path.{_≡_, sym, _∙_, ap}
+use Prim.Native.Nat.{suc, _-_, _≤_, zero-le}
 use native.Mathlib.Numerals.{add-one}
 use native.Mathlib.Omega.{arith}
 use borrow.Author.Tests.{not-true}
 use Rattle.units.specs.Limits.{last-node}
 use Rattle.path_search.specs.Rounds.{Shows, figures, distance}
-use Rattle.path_search.specs.Answer.{InRange, graph, usable}
+use Rattle.path_search.specs.Answer.{graph, usable}
 use Rattle.path_search.proofs.Answers.{nodes-below}
 use Rattle.path_search.proofs.DistanceLaws.{before-is, spread-is, settled}
 use borrow.Author.Needs.{needs}
 use Rattle.path_search.proofs.distances.Statement.{statement}
 use Rattle.path_search.proofs.distances.Tie as tie
-use Rattle.path_search.proofs.distances.Reads as reads
-use Rattle.path_search.proofs.distances.Lts as lts
-use Rattle.path_search.proofs.round.Reads as round-reads
-use Rattle.path_search.proofs.start.Reads as start-reads
 
 abbrev Inv-loop : tie.InvT-loop
 Inv-loop ends set destination table₀ near₀ table near = (near ≤ last-node) × Shows table (distance (graph ends) (usable set) destination near)

@@ -1,12 +1,10 @@
 -- leads_nearer meets its contract: each way through the tests is one case of the conjunction.
-use mathlib.Core.Path.{_≡_, refl, sym, _∙_, ap, ap₂}
+use mathlib.Core.Path.{_≡_, sym, _∙_, ap}
 use mathlib.Core.Logic.{⊎-elim}
 use mathlib.Core.Bool.{_&&_}
 use lib.Dec.{eqb, ltb}
 use Rattle.path_search.proofs.leads_nearer.Statement.{statement}
 use Rattle.path_search.proofs.leads_nearer.Tie as tie
-use Rattle.path_search.proofs.leads_nearer.Reads as reads
-use Rattle.path_search.proofs.leads_nearer.Lts as lts
 
 first-two : (c : tie.Joined1) → c .if1 .if2 ≡ (c .before .args .usable && eqb (c .before .args .to) (c .before .args .near))
 first-two c = ⊎-elim (λ w. rw (w .0 .taken) (w .1)) (λ w. rw (w .0 .left) (w .1 ∙ w .0 .left)) (c .if1 .came)

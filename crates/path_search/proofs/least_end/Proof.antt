@@ -1,19 +1,16 @@
 -- least_end meets its contract. `least` is the least over the links below `link`.
-use mathlib.Core.Path.{_≡_, refl, sym, _∙_, ap, ap₂}
+use mathlib.Core.Path.{_≡_, refl, sym, _∙_, ap}
 use mathlib.Core.Logic.{⊎-elim}
-use Prim.Native.Nat.{ℕ, suc, _+_, _-_, _≤_, _<_, zero-le, min}
+use Prim.Native.Nat.{_-_, _≤_, zero-le, min}
 use native.Mathlib.Numerals.{add-one}
 use native.Mathlib.Omega.{arith}
-use Rattle.path_search.specs.Rounds.{figures, least-end}
-use Rattle.path_search.specs.Answer.{InRange, graph, usable}
+use Rattle.path_search.specs.Rounds.{figures}
+use Rattle.path_search.specs.Picks.{least-end}
+use Rattle.path_search.specs.Answer.{graph, usable}
 use borrow.Author.Needs.{needs}
 use Rattle.path_search.proofs.Picks.{least-out, least-not}
 use Rattle.path_search.proofs.least_end.Statement.{statement}
 use Rattle.path_search.proofs.least_end.Tie as tie
-use Rattle.path_search.proofs.least_end.Reads as reads
-use Rattle.path_search.proofs.least_end.Lts as lts
-use Rattle.path_search.proofs.leaves.Reads as leaves-reads
-use Rattle.path_search.proofs.lesser.Reads as lesser-reads
 
 abbrev Inv-loop : tie.InvT-loop
 Inv-loop node ends set table count least₀ link₀ least link = (link ≤ count) × (least ≡ least-end (graph ends) (usable set) (figures table) node link)

@@ -1,5 +1,4 @@
 -- leaves meets its contract: each way through the tests is one case of the conjunction.
-use mathlib.Core.Path.{_≡_, refl}
 use borrow.Author.Tests.{eq-eqb, ne-eqb}
 use Rattle.path_search.proofs.leaves.Statement.{statement}
 use Rattle.path_search.proofs.leaves.Tie as tie

@@ -1,46 +1,57 @@
--- nearer_link meets its contract. No link below `link` passes the test.
+-- nearer_link meets its contract. While nothing is found, no link below `link` passes the test.
 use mathlib.Core.Path.{_≡_, refl, sym, _∙_, ap, ap₂}
 use mathlib.Core.Logic.{⊎-elim}
 use mathlib.Core.Bool.{Bool, true, false, _&&_}
 use Prim.Native.Nat.{ℕ, suc, _+_, _-_, _≤_, _<_, zero-le}
+use native.Mathlib.Nat.{le-refl}
 use native.Mathlib.Numerals.{add-one}
 use native.Mathlib.Omega.{arith}
 use lib.Dec.{eqb}
+use borrow.Author.Needs.{needs}
 use borrow.Author.Tests.{eq-eqb, ne-eqb}
-use Rattle.units.specs.Search.{at, nothing, firstFrom}
+use Rattle.units.specs.Search.{at, firstFrom}
 use Rattle.units.proofs.Search.{first-here, first-after}
 use Rattle.path_search.specs.Paths.{onward}
-use Rattle.path_search.specs.Rounds.{figures, nearer-link, place-of}
-use Rattle.path_search.specs.Answer.{InRange, graph, usable}
-use borrow.Author.Needs.{needs}
+use Rattle.path_search.specs.Rounds.{figures}
+use Rattle.path_search.specs.Picks.{place-of}
+use Rattle.path_search.specs.Answer.{graph, usable}
 use Rattle.path_search.proofs.nearer_link.Statement.{statement}
 use Rattle.path_search.proofs.nearer_link.Tie as tie
-use Rattle.path_search.proofs.nearer_link.Reads as reads
-use Rattle.path_search.proofs.nearer_link.Lts as lts
-use Rattle.path_search.proofs.leaves.Reads as leaves-reads
 
--- one step of the search from i on
-module _ (test : ℕ → Bool) (i n : ℕ) (h : i < n) where
-  left : n - i ≡ suc (n - (i + 1))
-  left = omega arith
+-- the search for the first of n numbers has come to `link`
+data Looked (test : ℕ → Bool) (n found link : ℕ) : Type 0 where
+  not-yet : found ≡ n → firstFrom 0 n test ≡ firstFrom link (n - link) test → Looked test n found link
+  there : found < link → firstFrom 0 n test ≡ at found → Looked test n found link
 
-  here : test i ≡ true → firstFrom i (n - i) test ≡ at i
-  here e = rw left (first-here test i (n - (i + 1)) e)
+module _ (test : ℕ → Bool) (n found link : ℕ) (few : found ≤ n) where
+  looked-here : (next : ℕ) → next ≡ link → link < found → Looked test n found link → test link ≡ true → Looked test n next (link + 1)
+  looked-here next s h (not-yet e q) t =
+      let more : n - link ≡ suc (n - (link + 1)) = omega arith in
+      there (omega arith) (q ∙ ap (λ k. firstFrom link k test) more ∙ first-here test link (n - (link + 1)) t ∙ ap at (sym s))
+  looked-here next s h (there b q) t = absurd (omega arith)
 
-  after : test i ≡ false → firstFrom i (n - i) test ≡ firstFrom (i + 1) (n - (i + 1)) test
-  after e = ap (λ k. firstFrom i k test) left ∙ first-after test i (n - (i + 1)) e ∙ ap (λ k. firstFrom k (n - (i + 1)) test) (sym (add-one i))
+  looked-past : (next : ℕ) → next ≡ found → link < found → Looked test n found link → test link ≡ false → Looked test n next (link + 1)
+  looked-past next s h (not-yet e q) t =
+      let more : n - link ≡ suc (n - (link + 1)) = omega arith in
+      not-yet (s ∙ e) (q ∙ ap (λ k. firstFrom link k test) more ∙ first-after test link (n - (link + 1)) t ∙ ap (λ k. firstFrom k (n - (link + 1)) test) (sym (add-one link)))
+  looked-past next s h (there b q) t = absurd (omega arith)
+
+  looked-all : found ≤ link → Looked test n found link → found ≡ place-of n (firstFrom 0 n test)
+  unfolding firstFrom
+  looked-all h (not-yet e q) = let ended : n - link ≡ 0 = omega arith in e ∙ sym (ap (place-of n) (q ∙ ap (λ k. firstFrom link k test) ended))
+  looked-all h (there b q) = sym (ap (place-of n) q)
 
 abbrev Inv-loop : tie.InvT-loop
-Inv-loop node near ends set table count link₀ link =
-    (link ≤ count) × (nearer-link (graph ends) (usable set) (figures table) node near ≡ firstFrom link (count - link) (onward (graph ends) (usable set) (λ w. eqb (figures table w) near) node))
+Inv-loop node near ends set table found₀ link₀ found link =
+    (found ≤ ends .count)
+    × (link ≤ ends .count)
+    × Looked (onward (graph ends) (usable set) (λ w. eqb (figures table w) near) node) (ends .count) found link
 
 abbrev μ-loop : tie.MeasureT-loop
-μ-loop node near ends set table count link₀ link = count - link
+μ-loop node near ends set table found₀ link₀ found link = ends .count - link
 
 loop-holds : tie.Need-loop-holds Inv-loop μ-loop
-loop-holds c =
-    let args = c .args in
-    (zero-le, ap (λ n. firstFrom 0 n (onward (graph (args .t1)) (usable (args .t2)) (λ w. eqb (figures (args .t3) w) (args .near)) (args .node))) (omega arith))
+loop-holds c = (le-refl _, zero-le, not-yet refl (ap (λ k. firstFrom 0 k (onward (graph (c .args .t1)) (usable (c .args .t2)) (λ w. eqb (figures (c .args .t3) w) (c .args .near)) (c .args .node))) (omega arith)))
 
 mul-leaves : tie.Need-mul-leaves Inv-loop μ-loop
 mul-leaves c = search needs
@@ -69,18 +80,6 @@ mul-if2 c = omega (arith, c .before .before .before .before .before .before .bef
 array-read-if2 : tie.Need-array-read-if2 Inv-loop μ-loop
 array-read-if2 c = omega (arith, c .before .before .before .before .before .before .before .pre .to-node (c .before .before .before .before .before .before .loop .link) (search needs))
 
-cast-t27 : tie.Need-cast-t27 Inv-loop μ-loop
-cast-t27 c = search needs
-
-returns : tie.Need-returns Inv-loop μ-loop
-returns c =
-    let turn = c .before .before .before .before .before .before .before in
-    let args = turn .before .args in
-    let test = onward (graph (args .t1)) (usable (args .t2)) (λ w. eqb (figures (args .t3) w) (args .near)) (args .node) in
-    let leaves = sym (c .before .before .before .leaves .ensures) ∙ c .before .before .if1 .taken in
-    let found = here test (turn .loop .link) (args .t1 .count) (omega arith) (ap₂ _&&_ leaves (eq-eqb _ _ (c .if2 .taken))) in
-    sym (ap (place-of (args .t1 .count)) (turn .loop .inv .1 ∙ found))
-
 add-link : tie.Need-add-link Inv-loop μ-loop
 add-link c = search needs
 
@@ -92,23 +91,26 @@ loop-again c =
     let turn = c .before .before .before .before .before in
     let args = turn .before .args in
     let link = turn .loop .link in
+    let found = turn .loop .found in
+    let inv = turn .loop .inv in
+    let n = args .t1 .count in
     let test = onward (graph (args .t1)) (usable (args .t2)) (λ w. eqb (figures (args .t3) w) (args .near)) (args .node) in
     let leaves = sym (c .before .leaves .ensures) in
-    let next = after test link (args .t1 .count) (omega arith) in (
-      omega arith,
-      turn .loop .inv .1 ∙ next (⊎-elim (λ w. ap₂ _&&_ (leaves ∙ w .0 .taken) (ne-eqb _ _ (w .2 .left))) (λ w. ap₂ _&&_ (leaves ∙ w .left) refl) (c .if1 .came)),
-    )
+    let below = c .before .before .before .before .loop-test .taken in
+    let next = c .if1 .found in
+    ⊎-elim (λ w. (omega (arith, w .3), omega arith, looked-here test n found link (inv .0) next (w .3) below (inv .2) (ap₂ _&&_ (leaves ∙ w .0 .taken) (eq-eqb _ _ (w .2 .taken)))))
+    (⊎-elim (λ w. (omega (arith, w .3), omega arith, looked-past test n found link (inv .0) next (w .3) below (inv .2) (ap₂ _&&_ (leaves ∙ w .0 .taken) (ne-eqb _ _ (w .2 .left)))))
+    (λ w. (omega (arith, w .1), omega arith, looked-past test n found link (inv .0) next (w .1) below (inv .2) (ap₂ _&&_ (leaves ∙ w .0 .left) refl))))
+    (c .if1 .came)
 
-cast-t28 : tie.Need-cast-t28 Inv-loop μ-loop
-cast-t28 c = search needs
+cast-t27 : tie.Need-cast-t27 Inv-loop μ-loop
+cast-t27 c = search needs
 
-returns-2 : tie.Need-returns-2 Inv-loop μ-loop
-unfolding firstFrom
-returns-2 c =
+returns : tie.Need-returns Inv-loop μ-loop
+returns c =
     let args = c .before .before .args in
     let test = onward (graph (args .t1)) (usable (args .t2)) (λ w. eqb (figures (args .t3) w) (args .near)) (args .node) in
-    let none-left : args .t1 .count - c .before .loop .link ≡ 0 = omega arith in
-    sym (ap (place-of (args .t1 .count)) (c .before .loop .inv .1 ∙ ap (λ n. firstFrom (c .before .loop .link) n test) none-left))
+    looked-all test (args .t1 .count) (c .before .loop .found) (c .before .loop .link) (c .before .loop .inv .0) (c .loop-test .left) (c .before .loop .inv .2)
 
 pub nearer-link-spec : {M : Type 1} → statement M
 nearer-link-spec =
@@ -126,10 +128,8 @@ nearer-link-spec =
     cast-to
     mul-if2
     array-read-if2
-    cast-t27
-    returns
     add-link
     loop-less
     loop-again
-    cast-t28
-    returns-2)
+    cast-t27
+    returns)

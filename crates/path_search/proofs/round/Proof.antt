@@ -7,15 +7,11 @@ use Prim.Native.Nat.{ℕ, _+_, _≤_, _<_, _-_, zero-le}
 use native.Mathlib.Omega.{arith}
 use borrow.Author.Needs.{needs}
 use lib.ListN.{length, length-set}
-use Rattle.units.specs.Search.{anyBelow}
-use Rattle.path_search.specs.Rounds.{Shows, figures, nearer, spread}
+use Rattle.path_search.specs.Rounds.{figures}
 use Rattle.path_search.specs.Answer.{graph, usable}
 use Rattle.path_search.proofs.Rounds.{Used, used-none, tested, used-nearer, used-not}
 use Rattle.path_search.proofs.round.Statement.{statement}
 use Rattle.path_search.proofs.round.Tie as tie
-use Rattle.path_search.proofs.round.Reads as reads
-use Rattle.path_search.proofs.round.Lts as lts
-use Rattle.path_search.proofs.leads_nearer.Reads as leads-nearer-reads
 
 abbrev Inv-loop : tie.InvT-loop
 Inv-loop near ends set count after₀ reached₀ link₀ after reached link =
@@ -45,8 +41,8 @@ element-copy-out-to c = search needs
 cast-to : tie.Need-cast-to Inv-loop μ-loop
 cast-to c = search needs
 
-element-copy-out-leads-nearer : tie.Need-element-copy-out-leads-nearer Inv-loop μ-loop
-element-copy-out-leads-nearer c = search needs
+element-copy-out-usable : tie.Need-element-copy-out-usable Inv-loop μ-loop
+element-copy-out-usable c = search needs
 
 mul-leads-nearer : tie.Need-mul-leads-nearer Inv-loop μ-loop
 mul-leads-nearer c = omega (arith, c .before .before .before .before .before .pre .0 .to-node (c .before .before .before .before .loop .link) (search needs))
@@ -125,7 +121,7 @@ round-spec =
     mul-to
     element-copy-out-to
     cast-to
-    element-copy-out-leads-nearer
+    element-copy-out-usable
     mul-leads-nearer
     array-read-leads-nearer
     mul-leads-nearer-2

@@ -1,22 +1,19 @@
 -- walk meets its contract. The first `place` links have been picked, and `left` are to be picked from `node` on.
 use mathlib.Core.Path.{_≡_, refl, sym, _∙_, ap, ap₂, subst}
 use mathlib.Core.List.{List, [], _∷_, _++_, append-nil}
-use Prim.Native.Nat.{ℕ, suc, _+_, _-_, _≤_, _<_, zero-le}
-use native.Mathlib.Numerals.{add-one}
+use Prim.Native.Nat.{ℕ, suc, _+_, _-_, _<_}
 use native.Mathlib.Omega.{arith}
 use lib.ListN.{length, set, replicate, length-append}
 use lib.Seq.{set-at, append-snoc}
 use Rattle.units.specs.Limits.{most-hops}
 use Rattle.units.specs.Lists.{padded}
-use Rattle.path_search.specs.Rounds.{figures, picked}
+use Rattle.path_search.specs.Rounds.{figures}
+use Rattle.path_search.specs.Picks.{picked}
 use Rattle.path_search.specs.Answer.{graph, usable}
 use Rattle.path_search.proofs.Picks.{Picked, picked-next}
 use borrow.Author.Needs.{needs}
 use Rattle.path_search.proofs.walk.Statement.{statement}
 use Rattle.path_search.proofs.walk.Tie as tie
-use Rattle.path_search.proofs.walk.Reads as reads
-use Rattle.path_search.proofs.walk.Lts as lts
-use Rattle.path_search.proofs.nearer_link.Reads as nearer-link-reads
 
 abbrev Inv-loop : tie.InvT-loop
 Inv-loop set table source count ends links₀ node₀ left₀ place₀ links node left place =

@@ -3,7 +3,7 @@ use mathlib.Core.Path.{_≡_, sym}
 use Prim.Native.Nat.{_+_, _-_, _≤_}
 use native.Mathlib.Omega.{arith}
 use lib.ListN.{length, drop}
-use Rattle.timeline.specs.Insertion.{filled, count-events}
+use Rattle.timeline.specs.EventTable.{filled, count-events}
 use Rattle.timeline.proofs.Counts.{count-none, count-first, filled-zero, filled-next, filled-past}
 use Rattle.timeline.proofs.count_events.Statement.{statement}
 use Rattle.timeline.proofs.count_events.Tie as tie

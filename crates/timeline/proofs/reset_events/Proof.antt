@@ -3,7 +3,7 @@ use mathlib.Core.Path.{_∙_}
 use native.Mathlib.Omega.{arith}
 use lib.ListN.{length-set}
 use Rattle.units.specs.Limits.{most-events}
-use Rattle.timeline.specs.Insertion.{only-clock}
+use Rattle.timeline.specs.EventTable.{only-clock}
 use Rattle.timeline.proofs.Pieces.{clock-alone}
 use borrow.Author.Needs.{needs}
 use Rattle.timeline.proofs.reset_events.Statement.{statement}

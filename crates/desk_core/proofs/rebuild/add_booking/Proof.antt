@@ -1,5 +1,5 @@
 -- `add_booking` meets its contract: the path is looked at and taken from on the tables with the two events.
-use mathlib.Core.Path.{_≡_, ap, ap₂, _∙_}
+use mathlib.Core.Path.{_≡_, ap₂, _∙_}
 use mathlib.Core.List.{List}
 use Prim.Native.Nat.{ℕ}
 use borrow.Author.Needs.{needs}
@@ -27,17 +27,22 @@ same-length c = search needs
 same-length-2 : tie.Need-same-length-2
 same-length-2 c = search needs
 
+-- the tables with the two events
+opened : (c : tie.After-insert-span)
+    → let a = c .before .before .before .before .before .before .args in
+    (c .insert-span .last .0 ≡ with-span (a .b .start .0) (release-of (a .b)) (a .events .now))
+    × (c .insert-span .last .1 .0 ≡ with-span-rows most-links (a .events .now) (a .b .start .0) (release-of (a .b)) (a .free .now))
+opened c = rw (← (c .before .release-minute .ensures)) (c .insert-span .ensures)
+
 returns : tie.Need-returns
 returns c =
-    let opened = c .before .before .before .before .before .before .before .before .before .before .before .before in
-    let a = opened .before .before .before .before .before .before .args in
-    let end = opened .before .release-minute .ensures in
-    let events-are = opened .insert-span .ensures .0 ∙ ap (λ e. with-span (a .b .start .0) e (a .events .now)) end in
-    let rows-are = opened .insert-span .ensures .1 ∙ ap (λ e. with-span-rows most-links (a .events .now) (a .b .start .0) e (a .free .now)) end in (
-      events-are,
-      c .before .before .take-path .ensures ∙ ap₂ (λ (es t : List ℕ). less-path es (a .b .start .0) (release-of (a .b)) (a .b .bandwidth .0) (path-of (a .b)) t) events-are rows-are,
+    let with-events = c .before .before .before .before .before .before .before .before .before .before .before .before in
+    let b = with-events .before .before .before .before .before .before .args .b in
+    let are = opened with-events in (
+      are .0,
+      c .before .before .take-path .ensures ∙ ap₂ (λ (es t : List ℕ). less-path es (b .start .0) (release-of b) (b .bandwidth .0) (path-of b) t) (are .0) (are .1),
       c .before .before .before .before .before .path-fits .ensures
-          ∙ ap₂ (λ (es t : List ℕ). enough-path es (a .b .start .0) (release-of (a .b)) (a .b .bandwidth .0) (path-of (a .b)) t) events-are rows-are,
+          ∙ ap₂ (λ (es t : List ℕ). enough-path es (b .start .0) (release-of b) (b .bandwidth .0) (path-of b) t) (are .0) (are .1),
     )
 
 pub add-booking-spec : {M : Type 1} → statement M

@@ -1,13 +1,12 @@
 -- `take_path` meets its contract: the bandwidth is taken from the links before `i`, and what is left is to take from the others.
-use mathlib.Core.Path.{_≡_, refl, sym, ap, ap₂, _∙_}
+use mathlib.Core.Path.{_≡_, refl, sym, ap, _∙_}
 use Prim.Native.Nat.{_+_, _-_, _≤_, _<_}
 use native.Mathlib.Omega.{arith}
-use lib.ListN.{length, getD, drop, length-map}
-use borrow.Author.Needs.{needs}
+use lib.ListN.{length, getD, drop}
 use Rattle.free_table.specs.Taking.{less-span}
-use Rattle.units.specs.Limits.{most-links, most-hops}
+use Rattle.units.specs.Limits.{most-links}
 use Rattle.desk_core.specs.Rebuilding.{path-of, release-of, less-path}
-use Rattle.desk_core.proofs.Along.{links-left, none-left, all-along, less-next, less-done}
+use Rattle.desk_core.proofs.Along.{path-long, all-along, less-next, less-done}
 use Rattle.desk_core.proofs.rebuild.take_path.Statement.{statement}
 use Rattle.desk_core.proofs.rebuild.take_path.Tie as tie
 
@@ -20,9 +19,9 @@ Inv-loop events free₀ b links count until i₀ free i =
 abbrev μ-loop : tie.MeasureT-loop
 μ-loop events free₀ b links count until i₀ free i = count - i
 
--- the type says that a path has 31 places
-path-long : (s : tie.Start Inv-loop μ-loop) → length (s .args .b .links) ≡ most-hops
-path-long s = sym (length-map (s .args .b .links) (λ v. v)) ∙ s .good .1 .1 .0 .1 .1 .1 .1 .1 .1 .1 .0 .1 .0 .1
+-- the path's links are among the place's
+path-whole : (s : tie.Start Inv-loop μ-loop) → s .args .b .count ≤ length (s .args .b .links)
+path-whole s = omega (arith, s .pre .1 .count-right, path-long (s .args .b) (s .good .1 .1 .0))
 
 cast-count : tie.Need-cast-count Inv-loop μ-loop
 cast-count c = let r = c .before .before .before .before .pre .1 in omega (arith, r .count-right)
@@ -48,7 +47,7 @@ take-bandwidth-requires c κs =
       record {
         events-sized = s .pre .0 .0;
         free-sized = c .before .before .loop .inv .1 .0 ∙ s .pre .0 .1;
-        column = all-along (b .links) (b .count) (c .before .before .loop .i) (omega (arith, r .count-right, path-long s)) (λ l. l < most-links) (r .links-right) (omega arith);
+        column = all-along (b .links) (b .count) (c .before .before .loop .i) (path-whole s) (λ l. l < most-links) (r .links-right) (omega arith);
       },
       omega (arith, end),
     )
@@ -59,21 +58,24 @@ add-i c = omega arith
 loop-less : tie.Need-loop-less Inv-loop μ-loop
 loop-less c = omega arith
 
+-- what taking from the link at `i` leaves
+taken : (c : tie.After-take-bandwidth Inv-loop μ-loop)
+    → let l = c .before .before .before .loop in
+    let a = c .before .before .before .before .before .before .before .before .before .args in
+    c .take-bandwidth .last .1 .0 ≡ less-span (a .events .now) (a .b .start .0) (release-of (a .b)) (getD (a .b .links) (l .i) 0) (a .b .bandwidth .0) (l .free)
+taken c = rw (← (c .before .before .before .before .release-minute .ensures)) (c .take-bandwidth .ensures .0)
+
 loop-again : tie.Need-loop-again Inv-loop μ-loop
 loop-again c =
     let s = c .before .before .before .before .before .before .before .before .before .before .before in
     let l = c .before .before .before .before .before .loop in
-    let t = c .before .before .take-bandwidth in
-    let end = c .before .before .before .before .before .before .release-minute .ensures in
-    let r = s .pre .1 in
     let b = s .args .b in (
       omega arith,
       (
-        t .kept .1 .0 ∙ l .inv .1 .0,
+        c .before .before .take-bandwidth .kept .1 .0 ∙ l .inv .1 .0,
         l .inv .1 .1
-            ∙ ap (λ ls. less-path (s .args .events .now) (b .start .0) (release-of b) (b .bandwidth .0) ls (l .free)) (links-left (b .links) (b .count) (l .i) (omega (arith, r .count-right, path-long s)) (omega arith))
-            ∙ less-next (s .args .events .now) (b .start .0) (release-of b) (b .bandwidth .0) _ _ (l .free)
-            ∙ ap (less-path (s .args .events .now) (b .start .0) (release-of b) (b .bandwidth .0) _) (sym (t .ensures .0 ∙ ap (λ e. less-span (s .args .events .now) (b .start .0) e (getD (b .links) (l .i) 0) (b .bandwidth .0) (l .free)) end)),
+            ∙ less-next (s .args .events .now) (b .start .0) (release-of b) (b .bandwidth .0) (b .links) (b .count) (l .i) (path-whole s) (l .free) (omega arith)
+            ∙ ap (less-path (s .args .events .now) (b .start .0) (release-of b) (b .bandwidth .0) (drop (l .i + 1) (path-of b))) (sym (taken (c .before .before))),
       ),
     )
 
@@ -84,12 +86,8 @@ returns : tie.Need-returns Inv-loop μ-loop
 returns c =
     let s = c .before .before .before .before .before .before .before in
     let l = c .before .loop in
-    let r = s .pre .1 in
     let b = s .args .b in
-    sym
-    (l .inv .1 .1
-    ∙ ap (λ ls. less-path (s .args .events .now) (b .start .0) (release-of b) (b .bandwidth .0) ls (l .free)) (none-left (b .links) (b .count) (l .i) (omega (arith, r .count-right, path-long s)) (omega arith))
-    ∙ less-done (s .args .events .now) (b .start .0) (release-of b) (b .bandwidth .0) (l .free))
+    sym (l .inv .1 .1 ∙ less-done (s .args .events .now) (b .start .0) (release-of b) (b .bandwidth .0) (b .links) (b .count) (l .i) (path-whole s) (l .free) (omega arith))
 
 pub take-path-spec : {M : Type 1} → statement M
 take-path-spec =

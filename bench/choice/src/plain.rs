@@ -1,0 +1,85 @@
+//! A chooser in plain Rust that does the library's work: low and the events, the links that last by rows, and a search.
+
+use choice_tests::{ChoiceRecord, LinkEnds, Question, Tables, LAST_NODE, LINKS, PATH_LINKS};
+
+const NODES: usize = LAST_NODE as usize + 1;
+const FAR: u32 = NODES as u32;
+
+/// The earliest start of the window that has a path.
+#[inline(never)]
+pub fn choose(ends: &LinkEnds, tables: &Tables, q: &Question) -> ChoiceRecord {
+    if q.latest < q.low {
+        return ChoiceRecord::refused();
+    }
+    let behind = &tables.events[1..];
+    let count = 1 + behind.iter().position(|&e| e == 0).unwrap_or(behind.len());
+    let events = &tables.events[..count];
+    let in_window = |e: &&u32| q.low < **e && **e <= q.latest;
+    let starts = std::iter::once(&q.low).chain(events.iter().filter(in_window));
+    for &start in starts {
+        let usable = lasting(ends, events, &tables.free, q, start);
+        if let Some(answer) = path(ends, &usable, q, start) {
+            return answer;
+        }
+    }
+    ChoiceRecord::refused()
+}
+
+/// The links that have the bandwidth in each row of the span.
+fn lasting(ends: &LinkEnds, events: &[u32], free: &[u32], q: &Question, start: u32) -> [bool; LINKS] {
+    let row = |minute: u32| events.partition_point(|&e| e <= minute) - 1;
+    let (first, last) = (row(start), row(start + q.duration - 1));
+    let rows = &free[first * LINKS..(last + 1) * LINKS];
+    let mut usable = [false; LINKS];
+    for (link, usable) in usable.iter_mut().enumerate().take(ends.count) {
+        *usable = rows.chunks_exact(LINKS).all(|row| q.bandwidth <= row[link]);
+    }
+    usable
+}
+
+/// The path of fewest usable links, the lowest of these: breadth-first from the destination, then a walk from the source.
+fn path(ends: &LinkEnds, usable: &[bool; LINKS], q: &Question, start: u32) -> Option<ChoiceRecord> {
+    const NONE: u8 = u8::MAX;
+    let mut first_in = [NONE; NODES];
+    let mut next_in = [NONE; LINKS];
+    for (link, next) in next_in.iter_mut().enumerate().take(ends.count) {
+        if usable[link] {
+            let to = ends.to[link] as usize;
+            *next = first_in[to];
+            first_in[to] = link as u8;
+        }
+    }
+    let mut distance = [FAR; NODES];
+    distance[q.destination as usize] = 0;
+    let mut queue = [0; NODES];
+    queue[0] = q.destination;
+    let (mut taken, mut put) = (0, 1);
+    while taken < put {
+        let node = queue[taken] as usize;
+        taken += 1;
+        let mut link = first_in[node];
+        while link != NONE {
+            let from = ends.from[link as usize] as usize;
+            if distance[from] == FAR {
+                distance[from] = distance[node] + 1;
+                queue[put] = from as u32;
+                put += 1;
+            }
+            link = next_in[link as usize];
+        }
+    }
+    if distance[q.source as usize] == FAR {
+        return None;
+    }
+    let mut links = [0; PATH_LINKS];
+    let mut node = q.source;
+    let mut count = 0;
+    while node != q.destination {
+        let nearer = |&l: &usize| usable[l] && ends.from[l] == node && distance[ends.to[l] as usize] + 1 == distance[node as usize];
+        let link = (0..ends.count).find(nearer)?;
+        links[count] = link as u32;
+        count += 1;
+        node = ends.to[link];
+    }
+    Some(ChoiceRecord::start(start, &links[..count]))
+}

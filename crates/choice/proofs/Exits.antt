@@ -1,0 +1,117 @@
+-- What the code may answer at each of its exits: the laws of `Starts`, on the lent tables and the code's own values.
+use mathlib.Core.Path.{_≡_, refl, sym, _∙_, ap, subst}
+use mathlib.Core.List.{List}
+use mathlib.Core.Bool.{Bool, true, false}
+use Prim.Native.Nat.{ℕ, _≤_, _<_}
+use native.Mathlib.Omega.{arith}
+use lib.ListN.{length, getD, length-append, List·getD-eq-default}
+use Rattle.units.specs.Limits.{most-events}
+use Rattle.units.specs.Lists.{padded}
+use Rattle.units.specs.Search.{at}
+use Rattle.units.proofs.Tests.{Side, below, above, side}
+use Rattle.units.proofs.Padded.{padded-at, padded-past}
+use Rattle.timeline.specs.Events.{events}
+use Rattle.timeline.proofs.Steady.{NoneBetween, ChangesAt}
+use Rattle.free_table.specs.Figures.{kept}
+use Rattle.free_table.proofs.SpanCheck.{kept-changes}
+use Rattle.path_search.specs.declared.LinkEnds.{LinkEnds}
+use Rattle.path_search.specs.declared.Path.{Path}
+use Rattle.path_search.specs.Paths.{Graph, Route, along, none}
+use Rattle.path_search.specs.Answer.{path-of, answer}
+use Rattle.path_search.proofs.Answers.{route-sized, answer-none}
+use Rattle.choice.specs.declared.Chosen.{Chosen}
+use Rattle.choice.specs.Choice.{granted, route-at, possible, choose}
+use Rattle.choice.specs.Answer.{carries, Askable, start-with, refusal, chosen}
+use Rattle.choice.proofs.Starts.{Tried, choose-none, choose-low, choose-event, choose-none-left, choose-too-late, none-impossible}
+use Rattle.choice.proofs.Lent.{carries-back}
+
+-- ---- a route by its count of links
+
+module _ (g : Graph) (usable : ℕ → ℕ → Bool) (from to m : ℕ) (r : Path) (answered : r ≡ answer (route-at g usable from to m)) where
+  -- an answer with a link is the route
+  route-found : 0 < r .count → (path : List ℕ) × (route-at g usable from to m ≡ along path) × (r ≡ path-of path)
+  route-found some = by (route-at g usable from to m) refl
+    where
+      by : (x : Route) → route-at g usable from to m ≡ x → (path : List ℕ) × (route-at g usable from to m ≡ along path) × (r ≡ path-of path)
+      by (along path) e = (path, e, answered ∙ ap answer e)
+      by none e = absurd (omega (arith, ap (λ (p : Path). p .count) (answered ∙ ap answer e)))
+
+  -- without one the start is not possible
+  pub no-route : r .count ≤ 0 → possible g usable from to m ≡ false
+  no-route few =
+      none-impossible g usable from to m
+      (answer-none (route-at g usable from to m) (route-sized g (usable m) to from) (omega (arith, ap (λ (p : Path). p .count) answered)))
+
+-- ---- the exits
+
+-- each minute of the window may be asked for alone
+pub askable-at : {ends : LinkEnds} {es t : List ℕ} {duration low latest : ℕ} → Askable ends es t duration low latest → (m : ℕ) → low ≤ m → m ≤ latest → Askable ends es t duration m m
+askable-at a m early late = record {
+  in-range = a .in-range;
+  sized = a .sized;
+  clock = a .clock;
+  times = a .times;
+  are-events = a .are-events;
+  not-past = omega arith;
+  lasts = a .lasts;
+  in-time = omega arith;
+}
+
+module _ (g : Graph) (es t : List ℕ) (bandwidth duration from to low latest c : ℕ) (ts : List ℕ) (shown : es ≡ padded most-events (events c ts)) (early : c ≤ low) where
+  abbrev carried : ℕ → ℕ → Bool
+  carried = carries (kept es t) bandwidth duration
+
+  abbrev test : ℕ → Bool
+  test = possible g carried from to
+
+  abbrev Answered : Chosen → Type 0
+  Answered r = r ≡ chosen (choose g carried from to low latest)
+
+  back : (k m l : ℕ) → k ≤ m → NoneBetween ts k m → carried m l ≡ true → carried k l ≡ true
+  back k m l = carries-back (kept es t) bandwidth duration ts l (subst (λ x. ChangesAt ts (kept x t l)) (sym shown) (kept-changes c ts t l)) k m
+
+  -- a place of the table has its event, and zero behind the last one
+  place : (i : ℕ) → getD es i 0 ≡ getD (events c ts) i 0
+  place i = ap (λ x. getD x i 0) shown ∙ by (side i (length (events c ts)))
+    where
+      by : Side i (length (events c ts)) → getD (padded most-events (events c ts)) i 0 ≡ getD (events c ts) i 0
+      by (below h) = padded-at most-events (events c ts) i h
+      by (above h) = padded-past most-events (events c ts) i h ∙ sym (List·getD-eq-default (events c ts) 0 h)
+
+  tried-events : (i : ℕ) → Tried test es low latest i → Tried test (events c ts) low latest i
+  tried-events i h = record { not-low = h .not-low; not-events = λ j a b d. rw (place j) at (h .not-events j a (rw (place j) b) (rw (place j) d)) }
+
+  -- a window that ends before it begins has no start
+  pub answer-empty : latest < low → Answered refusal
+  answer-empty h = sym (ap chosen (choose-none g carried from to low latest (λ m a b. absurd (omega arith))))
+
+  -- low, where it has a path
+  pub answer-low : low ≤ latest → (r : Path) → r ≡ answer (route-at g carried from to low) → 0 < r .count → Answered (start-with (record { 0 = low }) r)
+  answer-low h r e some =
+      let f = route-found g carried from to low r e some in
+      ap (start-with (record { 0 = low })) (f .2) ∙ sym (ap chosen (choose-low g carried from to c ts back low latest early (f .0) h (f .1)))
+
+  module _ (i : ℕ) (tried : Tried test es low latest i) where
+    -- the next event, where it lies in the window and has a path
+    pub answer-event : low < getD es i 0 → getD es i 0 ≤ latest → (r : Path) → r ≡ answer (route-at g carried from to (getD es i 0)) → 0 < r .count
+        → Answered (start-with (record { 0 = getD es i 0 }) r)
+    answer-event a b r e some =
+        let f = route-found g carried from to (getD es i 0) r e some in
+        let inside : i < length (events c ts) = by (side i (length (events c ts))) in
+        ap (start-with (record { 0 = getD es i 0 })) (f .2)
+        ∙ ap (λ m. chosen (granted (record { start = m; path = f .0 }))) (place i)
+        ∙ sym (ap chosen (choose-event g carried from to c ts back low latest early i (f .0) (tried-events i tried) inside (rw (place i) at a) (rw (place i) at b) (subst (λ m. route-at g carried from to m ≡ along (f .0)) (place i) (f .1))))
+      where
+        by : Side i (length (events c ts)) → i < length (events c ts)
+        by (below h) = h
+        by (above h) = absurd (omega (arith, place i, List·getD-eq-default (events c ts) 0 h, a))
+
+    -- no start, where the next event is too late or none is left
+    pub answer-late : latest < getD es i 0 → Answered refusal
+    answer-late h = sym (ap chosen (choose-too-late g carried from to c ts back low latest early i (tried-events i tried) (rw (place i) at h)))
+
+    pub answer-left : length es ≤ i → Answered refusal
+    answer-left h =
+        let long : length (events c ts) ≤ i = omega (arith, simp (length-append) at (ap length shown)) in
+        let all = tried-events i tried in
+        sym (ap chosen (choose-none-left g carried from to c ts back low latest early (record { not-low = all .not-low; not-events = λ j a. all .not-events j (omega arith) })))

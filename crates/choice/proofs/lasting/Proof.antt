@@ -1,0 +1,81 @@
+-- lasting meets its contract: the rows looked at are those from the row of the start to that of the last minute.
+use mathlib.Core.Path.{ap₂, _∙_}
+use Prim.Native.Nat.{suc, _-_, _*_, _≤_, _<_}
+use native.Mathlib.Numerals.{add-one}
+use native.Mathlib.Omega.{arith}
+use lib.ListN.{drop}
+use borrow.Author.Needs.{needs}
+use Rattle.units.specs.Limits.{most-links, most-events}
+use Rattle.timeline.proofs.Rows.{row-inside, row-later}
+use Rattle.timeline.proofs.Pieces.{rest-whole, length-rest}
+use Rattle.free_table.specs.Looking.{enough-rows, enough-span}
+use Rattle.choice.proofs.lasting.Statement.{statement}
+use Rattle.choice.proofs.lasting.Tie as tie
+
+row-at-requires : tie.Need-row-at-requires
+row-at-requires c κs = search needs
+
+sub-t10 : tie.Need-sub-t10
+sub-t10 c = search needs
+
+row-at-requires-2 : tie.Need-row-at-requires-2
+row-at-requires-2 c κs = search needs
+
+-- the rows of the start and of the last minute are the table's, in that order
+rows-found : (c : tie.After-row-at2) → (c .before .before .row-at .result ≤ c .row-at2 .result) × (c .row-at2 .result < most-events)
+rows-found c =
+    let s = c .before .before .before .before .before in (
+      rw (c .before .before .row-at .ensures, c .row-at2 .ensures) (row-later (s .args .start .0) _ (s .args .events .now) (omega arith)),
+      rw (c .row-at2 .ensures, ← s .pre .0 .events-sized) (row-inside _ (s .args .events .now) (omega arith)),
+    )
+
+mul-from : tie.Need-mul-from
+mul-from c = omega (arith, rows-found c)
+
+mul-lasting-in : tie.Need-mul-lasting-in
+mul-lasting-in c = omega (arith, rows-found c)
+
+sub-lasting-in : tie.Need-sub-lasting-in
+sub-lasting-in c = omega (arith, rows-found c)
+
+part-lasting-in-start : tie.Need-part-lasting-in-start
+part-lasting-in-start c = omega (arith, rows-found c)
+
+part-lasting-in-end : tie.Need-part-lasting-in-end
+part-lasting-in-end c = search needs
+
+sub-lasting-in-2 : tie.Need-sub-lasting-in-2
+sub-lasting-in-2 c = omega (arith, rows-found (c .before))
+
+add-lasting-in : tie.Need-add-lasting-in
+add-lasting-in c = omega (arith, rows-found (c .before))
+
+lasting-in-requires : tie.Need-lasting-in-requires
+lasting-in-requires c κs = (rw length-rest (omega (arith, rows-found (c .before))), omega arith)
+
+returns : tie.Need-returns
+unfolding enough-span
+returns c l h =
+    let f = c .before .before .before .before .row-at in
+    let p = c .before .before .row-at2 in
+    let a = c .before .before .before .before .before .before .before .args in
+    c .lasting-in .ensures l (omega arith)
+    ∙ ap₂ (λ n t. enough-rows n l (a .bandwidth .0) t) (add-one (p .result - f .result)) (rest-whole (f .result * most-links) (a .free .now))
+    ∙ ap₂ (λ i j. enough-rows (suc (j - i)) l (a .bandwidth .0) (drop (i * most-links) (a .free .now))) (f .ensures) (p .ensures)
+
+pub lasting-spec : {M : Type 1} → statement M
+lasting-spec =
+    tie.close
+    (tie.spec
+    row-at-requires
+    sub-t10
+    row-at-requires-2
+    mul-from
+    mul-lasting-in
+    sub-lasting-in
+    part-lasting-in-start
+    part-lasting-in-end
+    sub-lasting-in-2
+    add-lasting-in
+    lasting-in-requires
+    returns)
