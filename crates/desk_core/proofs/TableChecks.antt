@@ -9,6 +9,7 @@ use lib.ListN.{length}
 use Rattle.units.specs.declared.Link.{Link}
 use Rattle.units.specs.declared.Head.{Head}
 use Rattle.units.specs.Limits.{most-links, most-bookings, most-events, place-size}
+use Rattle.units.specs.Lists.{within}
 use Rattle.units.proofs.Tests.{_&_, in-range, equals}
 use Rattle.desk_core.specs.declared.LinkTable.{LinkTable}
 use Rattle.desk_core.specs.Calls.{Ask, ask, checked}
@@ -27,8 +28,8 @@ module _ (links : LinkTable) (head : Head) (events free places : List ℕ) where
   sizes-same = ap (λ n. sizes-ok n (length events) (length free) (length places)) (links-count links)
 
 -- sizes that are right: not too many links
-pub few-links : {links events free places : ℕ} → sizes-ok links events free places ≡ true → links ≤ most-links
-few-links {links} {events} {free} {places} e =
+pub few-links : (links events free places : ℕ) → sizes-ok links events free places ≡ true → links ≤ most-links
+few-links links events free places e =
     (in-range 1 most-links links & equals events most-events & equals free (most-events * most-links) & equals places (most-bookings * place-size)) .0 e .0 .0 .0 .1
 
 module _ (links : List Link) (t : Tables) where
@@ -61,6 +62,10 @@ module _ (links : List Link) (t : Tables) where
       by true true s e = absurd (ne (q ∙ says-0 s e))
       by true false s e = unsound links t a s e ∙ ap (λ j. refused-with j t) (sym (q ∙ says-3 s e))
       by false y s e = unsized links t (ask a) s ∙ ap (λ j. refused-with j t) (sym (q ∙ says-1 s))
+
+-- a figure in range is not below the range
+pub range-low : (low high x : ℕ) → within low high x ≡ true → low ≤ x
+range-low low high x e = in-range low high x .0 e .0
 
 -- the places that the head counts are in the book
 pub places-fit : (links : LinkTable) (t : Tables) → Fine (links-of links) t → t .head .bookings * place-size ≤ length (t .book)

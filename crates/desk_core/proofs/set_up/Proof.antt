@@ -4,6 +4,7 @@ use native.Mathlib.Omega.{arith}
 use borrow.Author.Needs.{needs}
 use borrow.Author.Tests.{not-true, not-false}
 use denote.Ref.{now}
+use lib.ListN.{length}
 use Rattle.desk_core.specs.Calls.{set-up}
 use Rattle.desk_core.specs.LinkTables.{links-of}
 use Rattle.desk_core.specs.Lent.{lent}
@@ -22,7 +23,10 @@ returns c =     let a = c .before .before .before .before .before .args in
     handed l t set-up (refused-with 1 t) (unsized l t set-up (sizes-same (a .links) (a .head) (now (a .events)) (now (a .free)) (now (a .book)) ∙ sym (c .before .sized .ensures) ∙ not-true _ (c .if1 .taken))) refl refl
 
 links-right-requires : tie.Need-links-right-requires
-links-right-requires c κs = few-links (sym (c .before .sized .ensures) ∙ not-false _ (c .if1 .left))
+links-right-requires c κs =     let a = c .before .before .before .before .before .args in
+    let l = links-of (a .links) in
+    let t = lent (a .head) (now (a .events)) (now (a .free)) (now (a .book)) in
+    few-links (a .links .count) (length (now (a .events))) (length (now (a .free))) (length (now (a .book))) (sym (c .before .sized .ensures) ∙ not-false _ (c .if1 .left))
 
 returns-2 : tie.Need-returns-2
 returns-2 c =     let a = c .before .before .before .before .before .before .before .args in

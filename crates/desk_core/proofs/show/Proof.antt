@@ -4,14 +4,15 @@ use native.Mathlib.Omega.{arith}
 use borrow.Author.Needs.{needs}
 use borrow.Author.Tests.{not-true, not-false}
 use denote.Ref.{now}
-use Prim.Native.Nat.{ℕ}
+use Prim.Native.Nat.{ℕ, _<_}
+use lib.ListN.{length}
 use Rattle.desk_core.specs.Plain.{free}
 use Rattle.desk_core.specs.Calls.{Ask, ask, shows}
 use Rattle.desk_core.specs.Tables.{held}
 use Rattle.desk_core.specs.LinkTables.{links-of}
 use Rattle.desk_core.specs.Lent.{lent}
 use Rattle.desk_core.proofs.Exits.{refused-with, stopped, accepted, handed-shown}
-use Rattle.desk_core.proofs.TableChecks.{fine, tables-refused}
+use Rattle.desk_core.proofs.TableChecks.{fine, tables-refused, range-low}
 use Rattle.desk_core.proofs.OwnChecks.{show-4-link, show-4-minute, show-0}
 use Rattle.desk_core.proofs.LinkColumns.{links-count}
 use Rattle.desk_core.proofs.BestStart.{figure-asks, figure-is}
@@ -68,8 +69,8 @@ returns-4 c =     let a = c .before .before .before .before .before .before .bef
     let t = lent (a .head) (now (a .events)) (now (a .free)) (now (a .book)) in
     let f = fine l t (sym (c .before .before .before .before .before .before .before .table-refusal .ensures) ∙ c .before .before .before .before .before .before .if1 .left) in
     let in-time = sym (c .before .before .in-range .ensures) ∙ not-false _ (c .before .if3 .left) in
-    let on-list = rw (links-count (a .links)) (c .before .before .before .if2 .left) in
-    ap (λ x. record { refusal = 0; free = x }) ?h ∙ handed-shown l t (ask (Ask.show (a .link .0) (a .minute .0))) _ (accepted l t (Ask.show (a .link .0) (a .minute .0)) (f .is-sized) (f .is-sound) (show-0 l (held t) (a .link .0) (a .minute .0) on-list in-time) (shows (free l (held t) (a .link .0) (a .minute .0))) refl)
+    let on-list : a .link .0 < length l = rw (links-count (a .links)) (c .before .before .before .if2 .left) in
+    ap (λ x. record { refusal = 0; free = record { 0 = x } }) (c .free-figure .ensures ∙ figure-is (a .links) t f (a .link .0) (a .minute .0) (c .before .before .before .if2 .left) (range-low _ _ _ in-time)) ∙ handed-shown l t (ask (Ask.show (a .link .0) (a .minute .0))) _ (accepted l t (Ask.show (a .link .0) (a .minute .0)) (f .is-sized) (f .is-sound) (show-0 l (held t) (a .link .0) (a .minute .0) on-list in-time) (shows (free l (held t) (a .link .0) (a .minute .0))) refl)
 
 pub show-spec : {M : Type 1} → statement M
 show-spec = tie.close (tie.spec table-refusal-requires not-shown-requires returns cast-if2 not-shown-requires-2 returns-2 in-range-requires not-shown-requires-3 returns-3 free-figure-requires returns-4)
