@@ -2,14 +2,14 @@
 use mathlib.Core.Path.{_≡_}
 use mathlib.Core.List.{List, [], _∷_}
 use mathlib.Core.Bool.{Bool}
-use Prim.Native.Nat.{ℕ, _+_, _*_, _≤_, _<_}
+use Prim.Native.Nat.{ℕ, _*_, _≤_, _<_}
 use lib.ListN.{length, take}
 use Rattle.units.specs.declared.Link.{Link}
 use Rattle.units.specs.Limits.{most-links, most-hops, most-bookings, most-events, place-size, last-minute, longest}
 use Rattle.units.specs.Lists.{all, All, Within}
 use Rattle.free_table.specs.Taking.{less-span, enough-span}
 use Rattle.book.specs.declared.Booking.{Booking as Place}
-use Rattle.book.specs.Places.{release}
+use Rattle.book.specs.Places.{release, booking-in}
 use Rattle.desk_core.specs.declared.LinkTable.{LinkTable}
 use Rattle.desk_core.specs.Plain.{Plain, taken, capacity}
 use Rattle.desk_core.specs.Tables.{plain-in}
@@ -37,7 +37,6 @@ pub record PlaceRight (b : Place) : Type 0 where
   pub start-right : b .start .0 ≤ last-minute
   pub duration-right : Within 1 longest (b .duration .0)
   pub count-right : b .count ≤ most-hops
-  pub path-sized : length (b .links) ≡ most-hops
   pub links-right : All (λ l. l < most-links) (path-of b)
 
 -- the event table and the free table have document 01's sizes
@@ -55,4 +54,5 @@ pub record CanRebuild (links : LinkTable) (clock : ℕ) (book : List ℕ) (n : �
   pub free-sized : length t ≡ most-events * most-links
   pub book-sized : length book ≡ most-bookings * place-size
   pub few-bookings : n ≤ most-bookings
+  pub counts-right : (i : ℕ) → i < n → booking-in book i .count ≤ most-hops
   pub bookings-right : All (BookingRight (links-of links) (plain-in clock book n)) (plain-in clock book n .bookings)

@@ -1,11 +1,16 @@
 // The events and free figures of a clock and a book: one booking added to them, and all of them anew. Booking adds one;
 // cancelling, moving the clock and the soundness check go through all. Nothing here looks at whether a booking is right.
-use book::{booking_at, release, Booking};
 use crate::LinkTable;
-use free_table::{has_bandwidth, reset_free, take_bandwidth};
-use timeline::{insert_span, reset_events};
-use units::{LinkNumber, Minute};
-
+use book::Booking;
+use book::booking_at;
+use book::release;
+use free_table::has_bandwidth;
+use free_table::reset_free;
+use free_table::take_bandwidth;
+use timeline::insert_span;
+use timeline::reset_events;
+use units::LinkNumber;
+use units::Minute;
 ghost use mathlib.Core.Path.{_≡_};
 ghost use mathlib.Core.Bool.{true};
 ghost use mathlib.Core.Logic.{_↔_};
@@ -34,7 +39,14 @@ fn path_fits(events: &[u32], free: &[u32], b: Booking) -> bool
     let until = release_minute(b);
     let mut i = 0;
     while i < count {
-        if !has_bandwidth(events, free, b.start, until, LinkNumber(links[i]), b.bandwidth) {
+        if !has_bandwidth(
+            events,
+            free,
+            b.start,
+            until,
+            LinkNumber(links[i]),
+            b.bandwidth,
+        ) {
             return false;
         }
         i += 1;
@@ -52,7 +64,14 @@ fn take_path(events: &[u32], free: &mut [u32], b: Booking)
     let until = release_minute(b);
     let mut i = 0;
     while i < count {
-        take_bandwidth(events, free, b.start, until, LinkNumber(links[i]), b.bandwidth);
+        take_bandwidth(
+            events,
+            free,
+            b.start,
+            until,
+            LinkNumber(links[i]),
+            b.bandwidth,
+        );
         i += 1;
     }
 }
@@ -62,8 +81,8 @@ fn take_path(events: &[u32], free: &mut [u32], b: Booking)
 pub(crate) fn add_booking(events: &mut [u32], free: &mut [u32], b: Booking) -> bool
     requires { ⌜ Room (now events) (now free) 2 ⌝ ∗ ⌜ PlaceRight b ⌝ }
     ensures { λ r. ⌜ (now (events .exit) ≡ with-span (b .start .0) (release-of b) (now (events .entry)))
-      × (now (free .exit) ≡ less-path (with-span (b .start .0) (release-of b) (now (events .entry))) (b .start .0) (release-of b) (b .bandwidth .0) (path-of b) (with-span-rows most-links (now (events .entry)) (b .start .0) (release-of b) (now (free .entry))))
-      × (r ≡ enough-path (with-span (b .start .0) (release-of b) (now (events .entry))) (b .start .0) (release-of b) (b .bandwidth .0) (path-of b) (with-span-rows most-links (now (events .entry)) (b .start .0) (release-of b) (now (free .entry)))) ⌝ }
+        × (now (free .exit) ≡ less-path (with-span (b .start .0) (release-of b) (now (events .entry))) (b .start .0) (release-of b) (b .bandwidth .0) (path-of b) (with-span-rows most-links (now (events .entry)) (b .start .0) (release-of b) (now (free .entry))))
+        × (r ≡ enough-path (with-span (b .start .0) (release-of b) (now (events .entry))) (b .start .0) (release-of b) (b .bandwidth .0) (path-of b) (with-span-rows most-links (now (events .entry)) (b .start .0) (release-of b) (now (free .entry)))) ⌝ }
 {
     insert_span(events, free, b.start, release_minute(b));
     let fits = path_fits(events, free, b);
@@ -73,11 +92,18 @@ pub(crate) fn add_booking(events: &mut [u32], free: &mut [u32], b: Booking) -> b
 
 // The events and free figures of the clock and the first `count` places of the book, whatever the tables held. Answers
 // whether no link is oversold.
-pub(crate) fn rebuild(links: LinkTable, clock: Minute, book: &[u32], count: usize, events: &mut [u32], free: &mut [u32]) -> bool
+pub(crate) fn rebuild(
+    links: LinkTable,
+    clock: Minute,
+    book: &[u32],
+    count: usize,
+    events: &mut [u32],
+    free: &mut [u32],
+) -> bool
     requires { ⌜ CanRebuild links (clock .0) (now book) count (now events) (now free) ⌝ }
     ensures { λ r. ⌜ (now (events .exit) ≡ event-table (plain-in (clock .0) (now (book .entry)) count))
-      × (now (free .exit) ≡ free-table (links-of links) (plain-in (clock .0) (now (book .entry)) count))
-      × ((r ≡ true) ↔ NotOversold (links-of links) (plain-in (clock .0) (now (book .entry)) count)) ⌝ }
+        × (now (free .exit) ≡ free-table (links-of links) (plain-in (clock .0) (now (book .entry)) count))
+        × ((r ≡ true) ↔ NotOversold (links-of links) (plain-in (clock .0) (now (book .entry)) count)) ⌝ }
 {
     reset_events(events, clock);
     reset_free(free, &links.capacity, links.count);
