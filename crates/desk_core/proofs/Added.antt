@@ -23,7 +23,8 @@ use Rattle.timeline.proofs.Events.{later-length}
 use Rattle.timeline.proofs.Steady.{ChangesAt}
 use Rattle.timeline.proofs.Inserted.{with-span-events, changes-more, room-of-events}
 use Rattle.free_table.specs.Figures.{table}
-use Rattle.free_table.specs.Taking.{less, enough-span}
+use Rattle.free_table.specs.Taking.{less}
+use Rattle.free_table.specs.Looking.{enough-span}
 use Rattle.free_table.proofs.Figures.{length-table}
 use Rattle.free_table.proofs.Tables.{table-with-span}
 use Rattle.free_table.proofs.Taken.{less-span-table}
@@ -180,7 +181,7 @@ module _ (links : List Link) (p : Plain) (b : Booking) (small : length links ≤
         by : Side start (p .clock) → Tells looked ((m : ℕ) → p .clock ≤ m → start ≤ m → m < until p b → b .terms .bandwidth ≤ free links p l m)
         by (below k) =
             since (p .clock) (omega arith) (omega arith) (λ m i j. i)
-            (enough-span-early (length links) (free links p) small (p .clock) ts l (b .terms .bandwidth) h start (until p b) (omega arith)
+            (enough-span-early (p .clock) ts (table (length links) (free links p) (events (p .clock) ts)) l (b .terms .bandwidth) start (until p b) (omega arith)
             ∙ enough-span-table (length links) (free links p) small (p .clock) ts l (b .terms .bandwidth) h changes (p .clock) (until p b) (omega arith) (r .still-stands))
         by (above k) =
             since start (omega arith) k (λ m i j. j) (enough-span-table (length links) (free links p) small (p .clock) ts l (b .terms .bandwidth) h changes start (until p b) k (omega (arith, r .duration-right .0)))

@@ -12,7 +12,8 @@ use denote.Laws.{Is}
 use denote.Struct.Declared.{row}
 use Rattle.units.specs.Limits.{most-hops}
 use Rattle.units.specs.Lists.{all, All}
-use Rattle.free_table.specs.Taking.{less-span, enough-span}
+use Rattle.free_table.specs.Taking.{less-span}
+use Rattle.free_table.specs.Looking.{enough-span}
 use Rattle.book.specs.declared.Booking.{Booking as Place}
 use Rattle.book.proofs.Booking.{the-type}
 use Rattle.desk_core.specs.Rebuilding.{less-path, enough-path}

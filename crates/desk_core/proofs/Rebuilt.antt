@@ -10,9 +10,10 @@ use Rattle.units.specs.Limits.{most-links, most-bookings, most-events}
 use Rattle.units.specs.Lists.{sum, count-from, All}
 use Rattle.units.proofs.Tests.{Tells, _&_, Side, below, above, side}
 use Rattle.units.proofs.Padded.{length-count, length-padded}
-use Rattle.timeline.specs.Insertion.{only-clock, Room}
+use Rattle.timeline.specs.EventTable.{only-clock}
+use Rattle.timeline.specs.Insertion.{Room}
 use Rattle.timeline.proofs.Inserted.{only-clock-events}
-use Rattle.free_table.specs.Taking.{all-free}
+use Rattle.free_table.specs.Figures.{all-free}
 use Rattle.free_table.proofs.Figures.{length-table}
 use Rattle.free_table.proofs.Tables.{all-free-table}
 use Rattle.book.specs.declared.Booking.{Booking as Place}

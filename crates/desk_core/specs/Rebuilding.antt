@@ -7,7 +7,8 @@ use lib.ListN.{length, take}
 use Rattle.units.specs.declared.Link.{Link}
 use Rattle.units.specs.Limits.{most-links, most-hops, most-bookings, most-events, place-size, last-minute, longest}
 use Rattle.units.specs.Lists.{all, All, Within}
-use Rattle.free_table.specs.Taking.{less-span, enough-span}
+use Rattle.free_table.specs.Taking.{less-span}
+use Rattle.free_table.specs.Looking.{enough-span}
 use Rattle.book.specs.declared.Booking.{Booking as Place}
 use Rattle.book.specs.Places.{release, booking-in}
 use Rattle.desk_core.specs.declared.LinkTable.{LinkTable}

@@ -8,13 +8,13 @@ const CASES: u64 = 24_000;
 
 /// A desk of up to `links` links and `bookings` bookings, none oversold, most of them within 300 minutes of the clock.
 fn desk(random: &mut Random, links: u64, bookings: u64) -> Desk {
-    let nodes = random.within(2, 8);
+    let nodes = random.within(2, 6);
     let clock = [0, random.below(20), LAST_MINUTE as u64 - random.within(100, 600)][random.below(3) as usize] as u32;
-    let links = (0..random.within(1, links))
+    let links: Vec<Link> = (0..random.within(3, links))
         .map(|_| {
             let from = random.below(nodes);
             let to = (from + random.within(1, nodes - 1)) % nodes;
-            Link { from: from as u32, to: to as u32, capacity: random.within(1, 12) as u32 }
+            Link { from: from as u32, to: to as u32, capacity: random.within(3, 12) as u32 }
         })
         .collect();
     let mut desk = Desk { clock, links, bookings: vec![] };
@@ -35,20 +35,22 @@ fn booking(random: &mut Random, desk: &Desk) -> Booking {
     let mut links: Vec<usize> = (0..some).map(|_| random.below(desk.links.len() as u64) as usize).collect();
     links.sort_unstable();
     links.dedup();
-    Booking { start, end, bandwidth: random.within(1, 9) as u32, links }
+    Booking { start, end, bandwidth: random.within(2, 9) as u32, links }
 }
 
 fn question(random: &mut Random, desk: &Desk) -> Question {
     let long = if random.once_in(50) { 525_600 } else { 90 };
-    let low = (desk.clock + random.below(250) as u32).min(LAST_MINUTE);
+    let low = (desk.clock + random.below(150) as u32).min(LAST_MINUTE);
     // near an event as often as not, so that starts just fit and just fail
     let events = desk.events();
-    let near = events[random.below(events.len() as u64) as usize] as u64 + random.below(3);
-    let latest = if random.once_in(2) { near.saturating_sub(1) as u32 } else { low + random.below(300) as u32 };
+    let near = (events[random.below(events.len() as u64) as usize] + random.below(3) as u32).saturating_sub(1);
+    let latest = if low <= near || random.once_in(10) { near } else { low + random.below(300) as u32 };
+    let mut link = || &desk.links[random.below(desk.links.len() as u64) as usize];
+    let (source, destination) = (link().from, link().to);
     Question {
-        source: random.below(8) as u32,
-        destination: random.below(8) as u32,
-        bandwidth: random.within(1, 10) as u32,
+        source,
+        destination,
+        bandwidth: random.within(2, 9) as u32,
         duration: random.within(1, long) as u32,
         low,
         latest: latest.min(LAST_MINUTE),
@@ -60,7 +62,7 @@ fn random_desks() {
     let (mut at_low, mut later, mut refused) = (0, 0, 0);
     for seed in 0..CASES {
         let mut random = Random::new(seed);
-        let (links, bookings) = if seed % 8 == 0 { (64, 90) } else { (10, 25) };
+        let (links, bookings) = if seed % 8 == 0 { (64, 90) } else { (12, 40) };
         let desk = desk(&mut random, links, bookings);
         let q = question(&mut random, &desk);
         let ours = choose_start(&desk.ends(), &desk.tables(), &q);

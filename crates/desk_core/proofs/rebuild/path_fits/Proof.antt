@@ -4,7 +4,7 @@ use Prim.Native.Nat.{_-_, _≤_, _<_}
 use native.Mathlib.Omega.{arith}
 use lib.ListN.{length, getD, drop}
 use borrow.Author.Tests.{not-true, not-false}
-use Rattle.free_table.specs.Taking.{enough-span}
+use Rattle.free_table.specs.Looking.{enough-span}
 use Rattle.units.specs.Limits.{most-links}
 use Rattle.desk_core.specs.Rebuilding.{path-of, release-of, enough-path}
 use Rattle.desk_core.proofs.Along.{path-long, all-along, enough-short, enough-next, enough-done}
