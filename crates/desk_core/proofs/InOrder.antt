@@ -68,6 +68,9 @@ module _ (links : List Link) (t : Tables) (fine : Fine links t) where
   pub book-obeys : Obeys links (held t)
   book-obeys = sound-obeys links t (fine .is-sound)
 
+  pub few-bookings : t .head .bookings ≤ most-bookings
+  few-bookings = sound-facts links t (fine .is-sound) .count-right
+
   in-order : Rising 0 (numbers (held t .bookings))
   in-order = sound-facts links t (fine .is-sound) .in-order
 
