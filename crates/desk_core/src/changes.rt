@@ -17,9 +17,10 @@ use units::Request;
 use units::clear_from;
 ghost use mathlib.Core.Path.{_≡_};
 ghost use mathlib.Core.Bool.{true};
-ghost use Prim.Native.Nat.{_≤_, _<_};
+ghost use Prim.Native.Nat.{_≤_};
 ghost use Rattle.units.specs.Limits.{last-minute};
-ghost use Rattle.book.specs.Places.{number-at};
+ghost use Rattle.book.specs.declared.Standing.the-variants.{At};
+ghost use Rattle.book.specs.Places.{find};
 ghost use Rattle.desk_core.specs.Plain.{empty};
 ghost use Rattle.desk_core.specs.Calls.{take-out, move-to, put-in};
 ghost use Rattle.desk_core.specs.Tables.{held, sizes-ok, tables};
@@ -48,7 +49,7 @@ pub(crate) fn reset(
     }
 }
 
-// Takes out the booking at a place, whose number is given.
+// Takes out the booking of a number, which was found at the place.
 pub(crate) fn release_place(
     head: Head,
     links: LinkTable,
@@ -58,7 +59,7 @@ pub(crate) fn release_place(
     number: u32,
     place: usize,
 ) -> Head
-    requires { ⌜ Fine (links-of links) (lent head (now events) (now free) (now book)) ⌝ ∗ ⌜ place < head .bookings ⌝ ∗ ⌜ number-at (now book) place ≡ number ⌝ }
+    requires { ⌜ Fine (links-of links) (lent head (now events) (now free) (now book)) ⌝ ∗ ⌜ find number (now book) (head .bookings) ≡ At place ⌝ }
     ensures { λ r. ⌜ (lent r (now (events .exit)) (now (free .exit)) (now (book .exit))) ≡ tables (links-of links) (take-out number (held (lent head (now (events .entry)) (now (free .entry)) (now (book .entry))))) ⌝ }
 {
     let clock = head.clock;

@@ -1,47 +1,62 @@
+-- `enter` meets its contract: the booking is put in at the place of its number, and added to the events and the figures.
+use mathlib.Core.Path.{_≡_, ap, _∙_}
+use native.Mathlib.Omega.{arith}
 use borrow.Author.Needs.{needs}
+use Rattle.book.specs.Places.{with-booking}
+use Rattle.desk_core.specs.Tables.{Tables}
+use Rattle.desk_core.specs.LinkTables.{links-of}
+use Rattle.desk_core.specs.Lent.{lent}
+use Rattle.desk_core.proofs.InOrder.{sizes, few-bookings}
+use Rattle.desk_core.proofs.Written.{place-of, enter-asks, grant-asks, entered-tables}
 use Rattle.desk_core.proofs.changes.enter.Statement.{statement}
 use Rattle.desk_core.proofs.changes.enter.Tie as tie
-use Rattle.desk_core.proofs.changes.enter.Reads as reads
-use Rattle.desk_core.proofs.changes.enter.Lts as lts
-use Rattle.book.proofs.insert_booking.Reads as insert-booking-reads
-use Rattle.book.proofs.slot.Reads as slot-reads
-use Rattle.desk_core.proofs.rebuild.add_booking.Reads as add-booking-reads
 
--- src/changes.rt:122:28
+-- the tables as they are lent
+abbrev came : tie.Start → Tables
+came s = lent (s .args .head) (s .args .events .now) (s .args .free .now) (s .args .book .now)
+
 cast-slot : tie.Need-cast-slot
 cast-slot c = search needs
 
--- src/changes.rt:122:9
 slot-requires : tie.Need-slot-requires
-slot-requires c κs = ?
+slot-requires c κs =
+    let s = c .before .before .before .before .before .before .before .before in
+    omega (arith, few-bookings (links-of (s .args .links)) (came s) (s .pre .0), sizes (links-of (s .args .links)) (came s) (s .pre .0) .book-right)
 
--- src/changes.rt:123:5
 insert-booking-requires : tie.Need-insert-booking-requires
-insert-booking-requires c κs = ?
+insert-booking-requires c κs =
+    let s = c .before .before .before .before .before .before .before .before .before .before in
+    let a = s .args in
+    omega
+    (arith, c .before .slot .ensures, enter-asks (links-of (a .links)) (came s) (s .pre .0) (a .number) (a .request) (a .start) (a .path) (s .pre .1), sizes (links-of (a .links)) (came s) (s .pre .0) .book-right)
 
--- src/changes.rt:124:5
 add-booking-requires : tie.Need-add-booking-requires
-add-booking-requires c κs = ?
+add-booking-requires c κs =
+    let s = c .before .before .before .before .before .before .before .before .before .before .before .before .before .before .before in
+    let a = s .args in
+    grant-asks (links-of (a .links)) (came s) (s .pre .0) (a .number) (a .request) (a .start) (a .path) (s .pre .1)
 
--- src/changes.rt:129:19
 add-t27 : tie.Need-add-t27
-add-t27 c = ?
+add-t27 c = let s = c .before .before .before .before .before .before .before .before .before .before .before .before .before .before .before .before .before .before .before .before .before .before in omega (arith, few-bookings (links-of (s .args .links)) (came s) (s .pre .0))
 
--- src/changes.rt:97:1
 same-length : tie.Need-same-length
 same-length c = search needs
 
--- src/changes.rt:97:1
 same-length-2 : tie.Need-same-length-2
 same-length-2 c = search needs
 
--- src/changes.rt:97:1
 same-length-3 : tie.Need-same-length-3
 same-length-3 c = search needs
 
--- src/changes.rt:97:1
 returns : tie.Need-returns
-returns c = ?
+returns c =
+    let added = c .before .before .before .before .before .before in
+    let inserted = added .before .before .before .before .before in
+    let found = inserted .before .before in
+    let s = found .before .before .before .before .before .before .before .before .before in
+    let a = s .args in
+    entered-tables (links-of (a .links)) (came s) (s .pre .0) (a .number) (a .request) (a .start) (a .path) (s .pre .1) (added .add-booking .ensures)
+    (inserted .insert-booking .ensures ∙ ap (λ i. with-booking i (place-of (a .number) (a .request) (a .start) (a .path)) (a .book .now)) (found .slot .ensures))
 
 pub enter-spec : {M : Type 1} → statement M
 enter-spec =
