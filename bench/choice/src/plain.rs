@@ -1,13 +1,33 @@
-//! A chooser in plain Rust that does the library's work: low and the events, the links that last by rows, and a search.
+//! A chooser in plain Rust that does the library's work: low and the events, the links that last by rows, and a search:
+//! in rounds over the links, as the library searches, or breadth-first with a queue.
 
 use choice_tests::{ChoiceRecord, LinkEnds, Question, Tables, LAST_NODE, LINKS, PATH_LINKS};
 
 const NODES: usize = LAST_NODE as usize + 1;
 const FAR: u32 = NODES as u32;
 
-/// The earliest start of the window that has a path.
+type Distances = [u32; NODES];
+
+/// The chooser that searches in rounds.
 #[inline(never)]
-pub fn choose(ends: &LinkEnds, tables: &Tables, q: &Question) -> ChoiceRecord {
+pub fn in_rounds(ends: &LinkEnds, tables: &Tables, q: &Question) -> ChoiceRecord {
+    choose(ends, tables, q, rounds)
+}
+
+/// The chooser that searches with a queue.
+#[inline(never)]
+pub fn with_queue(ends: &LinkEnds, tables: &Tables, q: &Question) -> ChoiceRecord {
+    choose(ends, tables, q, queue)
+}
+
+/// The earliest start of the window that has a path.
+#[inline(always)]
+fn choose(
+    ends: &LinkEnds,
+    tables: &Tables,
+    q: &Question,
+    distances: impl Fn(&LinkEnds, &[bool; LINKS], u32) -> Distances,
+) -> ChoiceRecord {
     if q.latest < q.low {
         return ChoiceRecord::refused();
     }
@@ -18,7 +38,8 @@ pub fn choose(ends: &LinkEnds, tables: &Tables, q: &Question) -> ChoiceRecord {
     let starts = std::iter::once(&q.low).chain(events.iter().filter(in_window));
     for &start in starts {
         let usable = lasting(ends, events, &tables.free, q, start);
-        if let Some(answer) = path(ends, &usable, q, start) {
+        let distance = distances(ends, &usable, q.destination);
+        if let Some(answer) = walk(ends, &usable, &distance, q, start) {
             return answer;
         }
     }
@@ -37,8 +58,28 @@ fn lasting(ends: &LinkEnds, events: &[u32], free: &[u32], q: &Question, start: u
     usable
 }
 
-/// The path of fewest usable links, the lowest of these: breadth-first from the destination, then a walk from the source.
-fn path(ends: &LinkEnds, usable: &[bool; LINKS], q: &Question, start: u32) -> Option<ChoiceRecord> {
+/// The distance of each node to the destination, in rounds over all links until one reaches no node.
+fn rounds(ends: &LinkEnds, usable: &[bool; LINKS], destination: u32) -> Distances {
+    let mut distance = [FAR; NODES];
+    distance[destination as usize] = 0;
+    for near in 0..FAR - 1 {
+        let mut reached = false;
+        for (link, &usable) in usable.iter().enumerate().take(ends.count) {
+            let (from, to) = (ends.from[link] as usize, ends.to[link] as usize);
+            if usable && distance[to] == near && near < distance[from] {
+                distance[from] = near + 1;
+                reached = true;
+            }
+        }
+        if !reached {
+            break;
+        }
+    }
+    distance
+}
+
+/// The same with a queue; the links into a node are chained through arrays.
+fn queue(ends: &LinkEnds, usable: &[bool; LINKS], destination: u32) -> Distances {
     const NONE: u8 = u8::MAX;
     let mut first_in = [NONE; NODES];
     let mut next_in = [NONE; LINKS];
@@ -50,9 +91,9 @@ fn path(ends: &LinkEnds, usable: &[bool; LINKS], q: &Question, start: u32) -> Op
         }
     }
     let mut distance = [FAR; NODES];
-    distance[q.destination as usize] = 0;
+    distance[destination as usize] = 0;
     let mut queue = [0; NODES];
-    queue[0] = q.destination;
+    queue[0] = destination;
     let (mut taken, mut put) = (0, 1);
     while taken < put {
         let node = queue[taken] as usize;
@@ -68,6 +109,17 @@ fn path(ends: &LinkEnds, usable: &[bool; LINKS], q: &Question, start: u32) -> Op
             link = next_in[link as usize];
         }
     }
+    distance
+}
+
+/// The walk from the source: at each node the lowest usable link whose end is one nearer.
+fn walk(
+    ends: &LinkEnds,
+    usable: &[bool; LINKS],
+    distance: &Distances,
+    q: &Question,
+    start: u32,
+) -> Option<ChoiceRecord> {
     if distance[q.source as usize] == FAR {
         return None;
     }
@@ -75,7 +127,9 @@ fn path(ends: &LinkEnds, usable: &[bool; LINKS], q: &Question, start: u32) -> Op
     let mut node = q.source;
     let mut count = 0;
     while node != q.destination {
-        let nearer = |&l: &usize| usable[l] && ends.from[l] == node && distance[ends.to[l] as usize] + 1 == distance[node as usize];
+        let nearer = |&l: &usize| {
+            usable[l] && ends.from[l] == node && distance[ends.to[l] as usize] + 1 == distance[node as usize]
+        };
         let link = (0..ends.count).find(nearer)?;
         links[count] = link as u32;
         count += 1;

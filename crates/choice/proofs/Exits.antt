@@ -7,7 +7,6 @@ use native.Mathlib.Omega.{arith}
 use lib.ListN.{length, getD, length-append, List·getD-eq-default}
 use Rattle.units.specs.Limits.{most-events}
 use Rattle.units.specs.Lists.{padded}
-use Rattle.units.specs.Search.{at}
 use Rattle.units.proofs.Tests.{Side, below, above, side}
 use Rattle.units.proofs.Padded.{padded-at, padded-past}
 use Rattle.timeline.specs.Events.{events}

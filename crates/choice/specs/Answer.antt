@@ -2,18 +2,17 @@
 use mathlib.Core.Path.{_≡_}
 use mathlib.Core.List.{List, []}
 use mathlib.Core.Bool.{Bool}
-use Prim.Native.Nat.{ℕ, _*_, _≤_, _<_}
+use Prim.Native.Nat.{ℕ, _≤_}
 use lib.Dec.{leb}
-use lib.ListN.{length}
 use Rattle.units.specs.declared.Minute.{Minute}
-use Rattle.units.specs.Limits.{most-links, most-events, longest, last-minute}
+use Rattle.units.specs.Limits.{most-events, longest, last-minute}
 use Rattle.units.specs.Lists.{Within, padded}
 use Rattle.units.specs.Search.{allFrom}
 use Rattle.timeline.specs.Events.{events}
+use Rattle.free_table.specs.Looking.{TablesSized}
 use Rattle.path_search.specs.declared.LinkEnds.{LinkEnds}
-use Rattle.path_search.specs.declared.LinkSet.{LinkSet}
 use Rattle.path_search.specs.declared.Path.{Path}
-use Rattle.path_search.specs.Answer.{InRange, usable, path-of}
+use Rattle.path_search.specs.Answer.{InRange, path-of}
 use Rattle.choice.specs.declared.StartChoice.{StartChoice}
 use Rattle.choice.specs.declared.StartChoice.the-variants.{Start, Refused}
 use Rattle.choice.specs.declared.Chosen.{Chosen}
@@ -28,19 +27,10 @@ suffices bandwidth free = leb bandwidth free
 abbrev pub carries : (ℕ → ℕ → ℕ) → ℕ → ℕ → ℕ → ℕ → Bool
 carries figure bandwidth duration m l = allFrom m duration (λ k. suffices bandwidth (figure l k))
 
--- the set has each link below the count that passes the test, and no other of these
-abbrev pub Has : LinkSet → ℕ → (ℕ → Bool) → Type 0
-Has set links test = (l : ℕ) → l < links → usable set l ≡ test l
-
--- document 01's tables of events and free figures, by their sizes
-pub record Sized (es t : List ℕ) : Type 0 where
-  pub events-sized : length es ≡ most-events
-  pub free-sized : length t ≡ most-events * most-links
-
 -- what may be asked: document 01's links, events whose clock is not after low, and a duration and a latest start in range
 pub record Askable (ends : LinkEnds) (es t : List ℕ) (duration low latest : ℕ) : Type 0 where
   pub in-range : InRange ends
-  pub sized : Sized es t
+  pub sized : TablesSized es t
   pub clock : ℕ
   pub times : List ℕ
   pub are-events : es ≡ padded most-events (events clock times)
@@ -52,13 +42,15 @@ pub record Askable (ends : LinkEnds) (es t : List ℕ) (duration low latest : �
 abbrev pub no-possible-start : ℕ
 no-possible-start = 8
 
--- a choice as it is answered: the start, with its path beside it, or the refusal number, with a path of zeros
+-- document 01's 'start with its path', as it is answered
 abbrev pub start-with : Minute → Path → Chosen
 start-with start path = record { choice = Start start; path = path }
 
+-- document 01's 'one refusal number', as it is answered: the path is zero
 abbrev pub refusal : Chosen
 refusal = record { choice = Refused no-possible-start; path = path-of [] }
 
+-- a choice as it is answered
 abbrev pub chosen : Choice → Chosen
 chosen (granted g) = start-with (record { 0 = g .start }) (path-of (g .path))
 chosen no-start = refusal
@@ -68,5 +60,6 @@ abbrev pub values-of : StartChoice → Path → ChoiceRecord
 values-of (Start start) path = record { refusal = 0; start = start; path = path }
 values-of (Refused number) path = record { refusal = number; start = record { 0 = 0 }; path = path }
 
+-- and of an answer: 'on refusal start and path are zero'
 abbrev pub values : Chosen → ChoiceRecord
 values r = values-of (r .choice) (r .path)

@@ -130,36 +130,40 @@ turned r p x s e =
 
 module _ (links : ℕ) (f : ℕ → ℕ → ℕ) (small : links ≤ most-links) (c : ℕ) (ts : List ℕ) (few : length (events c ts) ≤ most-events)
     (start end l bandwidth : ℕ) (column : l < most-links) (in-order : start ≤ end) (from : List·Memᴰ start ts) (to : List·Memᴰ end ts) where
+  abbrev es : List ℕ
+  es = padded most-events (events c ts)
+
+  abbrev before : List ℕ
+  before = table links f (events c ts)
+
+  abbrev after : List ℕ
+  after = table links (less f l bandwidth start end) (events c ts)
+
+  tables-sized : Sized es before l
+  tables-sized = record { events-sized = length-padded most-events (events c ts) few; free-sized = length-table links f small (events c ts) few; column = column }
+
+  amount : (r j : ℕ) → r < length (events c ts)
+      → if-so (leb (row-at es start) r) (if-so (ltb r (row-at es end)) (if-so (eqb j l) bandwidth)) ≡ if-so (leb start (event c ts r) && ltb (event c ts r) end && eqb j l) bandwidth
+  amount r j h =
+      ap₂ (λ a b. if-so a (if-so b (if-so (eqb j l) bandwidth)))
+      (turned r (row-at es start) (event c ts r) start (time-before most-events c ts start r from h))
+      (time-before most-events c ts end r to h)
+      ∙ both (leb start (event c ts r)) (ltb (event c ts r) end) (eqb j l) bandwidth
+
+  figure : (r j : ℕ) → j < most-links → Side r (length (events c ts)) → Side j links
+      → getD before (r * most-links + j) 0 - if-so (leb (row-at es start) r) (if-so (ltb r (row-at es end)) (if-so (eqb j l) bandwidth)) ≡ getD after (r * most-links + j) 0
+  figure r j k (below h) (below b) =
+      ap₂ _-_ (table-figure links f small (events c ts) r j h b) (amount r j h) ∙ sym (table-figure links (less f l bandwidth start end) small (events c ts) r j h b)
+  figure r j k (below h) (above b) =
+      omega (arith, table-column links f small (events c ts) r j h b k, table-column links (less f l bandwidth start end) small (events c ts) r j h b k)
+  figure r j k (above h) s = omega (arith, table-past links f small (events c ts) r j h, table-past links (less f l bandwidth start end) small (events c ts) r j h)
+
   pub less-span-table : less-span (padded most-events (events c ts)) start end l bandwidth (table links f (events c ts)) ≡ table links (less f l bandwidth start end) (events c ts)
   less-span-table =
-      same-figures
-      (less-span (padded most-events (events c ts)) start end l bandwidth (table links f (events c ts)))
-      (table links (less f l bandwidth start end) (events c ts))
-      (length-less-span es start end l bandwidth (table links f (events c ts)) sized in-order)
+      same-figures (less-span es start end l bandwidth before) after
+      (length-less-span es start end l bandwidth before tables-sized in-order)
       (length-table links (less f l bandwidth start end) small (events c ts) few)
-      (λ r j h k. less-span-at es start end l bandwidth (table links f (events c ts)) sized in-order r j k ∙ figure r j k (side r (length (events c ts))) (side j links))
-    where
-      es : List ℕ
-      es = padded most-events (events c ts)
-
-      sized : Sized (padded most-events (events c ts)) (table links f (events c ts)) l
-      sized = record { events-sized = length-padded most-events (events c ts) few; free-sized = length-table links f small (events c ts) few; column = column }
-
-      amount : (r j : ℕ) → r < length (events c ts)
-          → if-so (leb (row-at es start) r) (if-so (ltb r (row-at es end)) (if-so (eqb j l) bandwidth)) ≡ if-so (leb start (event c ts r) && ltb (event c ts r) end && eqb j l) bandwidth
-      amount r j h =
-          ap₂ (λ a b. if-so a (if-so b (if-so (eqb j l) bandwidth))) (turned r (row-at es start) (event c ts r) start (time-before most-events c ts start r from h)) (time-before most-events c ts end r to h)
-          ∙ both (leb start (event c ts r)) (ltb (event c ts r) end) (eqb j l) bandwidth
-
-      figure : (r j : ℕ) → j < most-links → Side r (length (events c ts)) → Side j links
-          → getD (table links f (events c ts)) (r * most-links + j) 0 - if-so (leb (row-at es start) r) (if-so (ltb r (row-at es end)) (if-so (eqb j l) bandwidth))
-          ≡ getD (table links (less f l bandwidth start end) (events c ts)) (r * most-links + j) 0
-      figure r j k (below h) (below b) =
-          ap₂ _-_ (table-figure links f small (events c ts) r j h b) (amount r j h) ∙ sym (table-figure links (less f l bandwidth start end) small (events c ts) r j h b)
-      figure r j k (below h) (above b) =
-          omega (arith, table-column links f small (events c ts) r j h b k, table-column links (less f l bandwidth start end) small (events c ts) r j h b k)
-      figure r j k (above h) s =
-          omega (arith, table-past links f small (events c ts) r j h, table-past links (less f l bandwidth start end) small (events c ts) r j h)
+      (λ r j h k. less-span-at es start end l bandwidth before tables-sized in-order r j k ∙ figure r j k (side r (length (events c ts))) (side j links))
 
 -- they change only at the times too
 pub less-changes : (f : ℕ → ℕ → ℕ) (link bandwidth start end : ℕ) {ts : List ℕ} (l : ℕ) → List·Memᴰ start ts → List·Memᴰ end ts → ChangesAt ts (f l) → ChangesAt ts (less f link bandwidth start end l)

@@ -3,17 +3,20 @@
 use timeline::clear_from;
 use timeline::row_at;
 use units::Bandwidth;
+use units::LINKS;
 use units::LinkNumber;
 use units::Minute;
 use units::ROW;
 ghost use mathlib.Core.Path.{_≡_};
+ghost use mathlib.Core.Bool.{false, _&&_};
 ghost use Prim.Native.Nat.{_-_, _*_, _≤_, _<_};
-ghost use lib.ListN.{take};
+ghost use lib.Dec.{leb};
+ghost use lib.ListN.{length, getD, take};
 ghost use Rattle.units.specs.Limits.{most-links};
 ghost use Rattle.timeline.specs.Events.{row-at};
 ghost use Rattle.free_table.specs.Figures.{kept, all-free, Capacities};
 ghost use Rattle.free_table.specs.Taking.{less-rows, less-span, Sized, WholeRows};
-ghost use Rattle.free_table.specs.Looking.{enough-rows, enough-span};
+ghost use Rattle.free_table.specs.Looking.{enough-rows, enough-span, Marks, TablesSized};
 
 // The free table of a desk without bookings: the capacities of its links at the one event, the clock.
 #[no_mangle]
@@ -91,7 +94,7 @@ pub extern "C" fn take_bandwidth(
 }
 
 // Whether one link has the bandwidth in each of the first `rows` rows of the part.
-pub fn enough(part: &[u32], rows: usize, link: LinkNumber, bandwidth: Bandwidth) -> bool
+fn enough(part: &[u32], rows: usize, link: LinkNumber, bandwidth: Bandwidth) -> bool
     requires { ⌜ WholeRows (now part) rows (link .0) ⌝ }
     ensures { λ r. ⌜ r ≡ enough-rows rows (link .0) (bandwidth .0) (now (part .entry)) ⌝ }
 {
@@ -123,4 +126,58 @@ pub extern "C" fn has_bandwidth(
     let last = row_at(events, Minute(end.0 - 1));
     let from = first * ROW;
     enough(&free[from..], last - first + 1, link, bandwidth)
+}
+
+// Whether a link that has the bandwidth before, has it in a row with this figure too.
+fn lasts(before: bool, figure: u32, bandwidth: Bandwidth) -> bool
+    ensures { λ r. ⌜ r ≡ (before && leb (bandwidth .0) figure) ⌝ }
+{
+    before && bandwidth.0 <= figure
+}
+
+// The links of those marked that have the bandwidth in the first row of the part.
+fn lasting_in_row(marked: [bool; LINKS], part: &[u32], bandwidth: Bandwidth) -> [bool; LINKS]
+    requires { ⌜ most-links ≤ length (now part) ⌝ }
+    ensures { λ r. ⌜ Marks r (λ l. getD marked l false && leb (bandwidth .0) (getD (now (part .entry)) l 0)) ⌝ }
+{
+    let mut after = [false; LINKS];
+    let mut link = 0;
+    while link < LINKS {
+        after[link] = lasts(marked[link], part[link], bandwidth);
+        link += 1;
+    }
+    after
+}
+
+// The links that have the bandwidth in each of the first `rows` rows of the part.
+fn lasting_in_rows(part: &[u32], rows: usize, bandwidth: Bandwidth) -> [bool; LINKS]
+    requires { ⌜ rows * most-links ≤ length (now part) ⌝ }
+    ensures { λ r. ⌜ Marks r (λ l. enough-rows rows l (bandwidth .0) (now (part .entry))) ⌝ }
+{
+    let mut marked = [true; LINKS];
+    let mut next = 0;
+    while next < rows {
+        let from = next * ROW;
+        let after = lasting_in_row(marked, &part[from..], bandwidth);
+        marked = after;
+        next += 1;
+    }
+    marked
+}
+
+// The links that have the bandwidth free in every minute from start to end - 1.
+pub fn lasting_links(
+    events: &[u32],
+    free: &[u32],
+    start: Minute,
+    end: Minute,
+    bandwidth: Bandwidth,
+) -> [bool; LINKS]
+    requires { ⌜ TablesSized (now events) (now free) × (start .0 < end .0) ⌝ }
+    ensures { λ r. ⌜ Marks r (λ l. enough-span (now (events .entry)) (start .0) (end .0) l (bandwidth .0) (now (free .entry))) ⌝ }
+{
+    let first = row_at(events, start);
+    let end_row = row_at(events, Minute(end.0 - 1));
+    let from = first * ROW;
+    lasting_in_rows(&free[from..], end_row - first + 1, bandwidth)
 }

@@ -74,77 +74,84 @@ module _ (f : ℕ → List ℕ) (k : ℕ) (sized : (e : ℕ) → length (f e) �
 -- ---- one event more
 
 module _ (c m : ℕ) (ts : List ℕ) where
-  -- the events before a new one, and those behind it
+  -- how many of the later events stand before a new one
+  abbrev place : ℕ
+  place = slot m (later c ts)
+
+  -- the events before it, and those behind it
   front : List ℕ
-  front = c ∷ take (slot m (later c ts)) (later c ts)
+  front = c ∷ take place (later c ts)
 
   back : List ℕ
-  back = drop (slot m (later c ts)) (later c ts)
+  back = drop place (later c ts)
 
   joined : front ++ back ≡ events c ts
   unfolding front back
-  joined = ap (λ (l : List ℕ). c ∷ l) (take-append-drop (slot m (later c ts)) (later c ts))
+  joined = ap (λ (l : List ℕ). c ∷ l) (take-append-drop place (later c ts))
 
-  length-front : length front ≡ suc (slot m (later c ts))
+  length-front : length front ≡ suc place
   unfolding front
-  length-front = ap suc (length-take-le (slot m (later c ts)) (later c ts) (slot-le m (later c ts)))
+  length-front = ap suc (length-take-le place (later c ts) (slot-le m (later c ts)))
 
   around : c < m → member m (later c ts) ≡ false → front ++ (m ∷ back) ≡ events c (m ∷ ts)
   unfolding front back
   around h a = ap (λ (l : List ℕ). c ∷ l) (sym (later-inserts c m ts h ∙ insert-split m (later c ts) a))
 
   module _ (n : ℕ) where
+    abbrev table : List ℕ
+    table = padded n (events c ts)
+
     -- the event of the row that holds at m
-    held : getD (padded n (events c ts)) (row-at (padded n (events c ts)) m) 0 ≡ last-event m c ts
+    held : getD table (row-at table m) 0 ≡ last-event m c ts
     held = event-found m c ts (n - length (events c ts))
 
-    there : m ≤ last-event m c ts → m ≤ getD (padded n (events c ts)) (row-at (padded n (events c ts)) m) 0
+    there : m ≤ last-event m c ts → m ≤ getD table (row-at table m) 0
     there h = rw held h
 
-    missed : last-event m c ts < m → getD (padded n (events c ts)) (row-at (padded n (events c ts)) m) 0 < m
+    missed : last-event m c ts < m → getD table (row-at table m) 0 < m
     missed h = rw held h
 
     module _ (few : length (events c (m ∷ ts)) ≤ n) where
       enough : c < m → member m (later c ts) ≡ false → length front + suc (length back) ≤ n
       enough h a = omega (arith, simp length-append at (ap length (around h a)))
 
-      event-new : c < m → member m (later c ts) ≡ false → put-in (suc (slot m (later c ts))) (m ∷ []) (padded n (events c ts)) ≡ padded n (events c (m ∷ ts))
+      some : c < m → member m (later c ts) ≡ false → length (events c ts) ≤ n
+      some h a = omega (arith, enough h a, simp length-append at (ap length joined))
+
+      event-new : c < m → member m (later c ts) ≡ false → put-in (suc place) (m ∷ []) table ≡ padded n (events c (m ∷ ts))
       event-new h a =
           sym
           (ap (padded n) (sym (around h a))
           ∙ padded-insert n front (m ∷ []) back (omega (arith, enough h a))
           ∙ ap₂ (λ i (t : List ℕ). take i t ++ ((m ∷ []) ++ take (n - (i + 1)) (drop i t))) length-front (ap (padded n) joined)
-          ∙ ap (λ k. take (suc (slot m (later c ts))) (padded n (events c ts)) ++ ((m ∷ []) ++ take (k - (suc (slot m (later c ts)) + 1)) (drop (suc (slot m (later c ts))) (padded n (events c ts))))) (sym size))
-        where
-          size : length (padded n (events c ts)) ≡ n
-          size = length-padded n (events c ts) (omega (arith, enough h a, simp length-append at (ap length joined)))
+          ∙ ap (λ k. take (suc place) table ++ ((m ∷ []) ++ take (k - (suc place + 1)) (drop (suc place) table))) (sym (length-padded n (events c ts) (some h a))))
 
       -- the event table with m among the times
       pub with-event-events : with-event m (padded n (events c ts)) ≡ padded n (events c (m ∷ ts))
       with-event-events = by (arrival c m ts)
         where
-          by : Arrival c m ts → with-event m (padded n (events c ts)) ≡ padded n (events c (m ∷ ts))
-          by (known h e) = with-event-there m (padded n (events c ts)) (there h) ∙ ap (λ (l : List ℕ). padded n (c ∷ l)) (sym e)
-          by (new h b a) =
-              with-event-new m (padded n (events c ts)) (missed b)
-              ∙ ap (λ i. put-in (suc i) (m ∷ []) (padded n (events c ts))) (row-slot n c m ts a)
-              ∙ event-new h a
+          by : Arrival c m ts → with-event m table ≡ padded n (events c (m ∷ ts))
+          by (known h e) = with-event-there m table (there h) ∙ ap (λ (l : List ℕ). padded n (c ∷ l)) (sym e)
+          by (new h b a) = with-event-new m table (missed b) ∙ ap (λ i. put-in (suc i) (m ∷ []) table) (row-slot n c m ts a) ∙ event-new h a
 
       module _ (f : ℕ → List ℕ) (k : ℕ) (sized : (e : ℕ) → length (f e) ≡ k) (s : ChangesAt ts f) where
-        row-new : c < m → member m (later c ts) ≡ false
-            → put-in (suc (slot m (later c ts)) * k) (take k (drop (slot m (later c ts) * k) (all-rows f k n (events c ts)))) (all-rows f k n (events c ts)) ≡ all-rows f k n (events c (m ∷ ts))
+        abbrev all : List ℕ → List ℕ
+        all es = all-rows f k n es
+
+        -- a copy of the row that stands at i put in behind it
+        abbrev copy-in : ℕ → List ℕ → List ℕ
+        copy-in i t = put-in (suc i * k) (take k (drop (i * k) t)) t
+
+        row-new : c < m → member m (later c ts) ≡ false → copy-in place (all (events c ts)) ≡ all (events c (m ∷ ts))
         row-new h a =
             sym
-            (ap (all-rows f k n) (sym (around h a))
+            (ap all (sym (around h a))
             ∙ rows-insert f k n front m back (rows f k sized (front ++ (m ∷ back))) (enough h a)
-            ∙ ap₂ (λ i (t : List ℕ). take (i * k) t ++ (f m ++ take (n * k - (i * k + k)) (drop (i * k) t))) length-front (ap (all-rows f k n) joined)
+            ∙ ap₂ (λ i (t : List ℕ). take (i * k) t ++ (f m ++ take (n * k - (i * k + k)) (drop (i * k) t))) length-front (ap all joined)
             ∙ ap₂ (λ (p : List ℕ) j. take (suc place * k) t ++ (p ++ take j (drop (suc place * k) t))) (sym copied) count)
           where
-            place : ℕ
-            place = slot m (later c ts)
-
             t : List ℕ
-            t = all-rows f k n (events c ts)
+            t = all (events c ts)
 
             inside : place < length (events c ts)
             inside = omega (arith, slot-le m (later c ts))
@@ -152,16 +159,13 @@ module _ (c m : ℕ) (ts : List ℕ) where
             copied : take k (drop (place * k) t) ≡ f m
             copied =
                 row-piece f k sized place (events c ts) _ inside
-                ∙ ap f (sym (padded-at n (events c ts) place inside) ∙ ap (λ i. getD (padded n (events c ts)) i 0) (sym (row-slot n c m ts a)) ∙ held)
+                ∙ ap f (sym (padded-at n (events c ts) place inside) ∙ ap (λ i. getD table i 0) (sym (row-slot n c m ts a)) ∙ held)
                 ∙ steady f c m ts s (omega arith)
-
-            some : length (events c ts) ≤ n
-            some = omega (arith, enough h a, simp length-append at (ap length joined))
 
             size : length t ≡ n * k
             size =
                 let l : length (flatten (map f (events c ts))) ≡ length (events c ts) * k = length-rows f k (events c ts) (rows f k sized (events c ts)) in
-                length-padded (n * k) (flatten (map f (events c ts))) (rw l (mul-le-mul-right k some))
+                length-padded (n * k) (flatten (map f (events c ts))) (rw l (mul-le-mul-right k (some h a)))
 
             count : n * k - (suc place * k + k) ≡ length t - (suc place * k + length (take k (drop (place * k) t)))
             count = omega (arith, size, ap length copied ∙ sized m)
@@ -170,12 +174,9 @@ module _ (c m : ℕ) (ts : List ℕ) where
         pub with-row-rows : with-row k (padded n (events c ts)) m (all-rows f k n (events c ts)) ≡ all-rows f k n (events c (m ∷ ts))
         with-row-rows = by (arrival c m ts)
           where
-            by : Arrival c m ts → with-row k (padded n (events c ts)) m (all-rows f k n (events c ts)) ≡ all-rows f k n (events c (m ∷ ts))
-            by (known h e) = with-row-there m (padded n (events c ts)) k (all-rows f k n (events c ts)) (there h) ∙ ap (λ (l : List ℕ). all-rows f k n (c ∷ l)) (sym e)
-            by (new h b a) =
-                with-row-new m (padded n (events c ts)) k (all-rows f k n (events c ts)) (missed b)
-                ∙ ap (λ i. put-in (suc i * k) (take k (drop (i * k) (all-rows f k n (events c ts)))) (all-rows f k n (events c ts))) (row-slot n c m ts a)
-                ∙ row-new h a
+            by : Arrival c m ts → with-row k table m (all (events c ts)) ≡ all (events c (m ∷ ts))
+            by (known h e) = with-row-there m table k (all (events c ts)) (there h) ∙ ap (λ (l : List ℕ). all (c ∷ l)) (sym e)
+            by (new h b a) = with-row-new m table k (all (events c ts)) (missed b) ∙ ap (λ i. copy-in i (all (events c ts))) (row-slot n c m ts a) ∙ row-new h a
 
 -- ---- the two events of a span
 

@@ -4,6 +4,7 @@ use Prim.Native.Nat.{ℕ, _-_, _<_}
 use native.Mathlib.Omega.{arith}
 use borrow.Author.Needs.{needs}
 use Rattle.free_table.specs.Figures.{kept}
+use Rattle.free_table.specs.Looking.{enough-span}
 use Rattle.path_search.specs.Answer.{graph, usable, answer}
 use Rattle.path_search.proofs.Agree.{route-agree}
 use Rattle.choice.specs.Answer.{carries}
@@ -11,26 +12,28 @@ use Rattle.choice.proofs.Lent.{enough-span-carries}
 use Rattle.choice.proofs.path_at.Statement.{statement}
 use Rattle.choice.proofs.path_at.Tie as tie
 
-add-t12 : tie.Need-add-t12
-add-t12 c = search needs
+end-of-requires : tie.Need-end-of-requires
+end-of-requires c κs = search needs
 
-lasting-requires : tie.Need-lasting-requires
-lasting-requires c κs = search needs
+lasting-links-requires : tie.Need-lasting-links-requires
+lasting-links-requires c κs = search needs
 
 find-route-requires : tie.Need-find-route-requires
 find-route-requires c κs = search needs
 
 returns : tie.Need-returns
 returns c =
-    let from = c .before .before .before .before .before .before in
+    let from = c .before .before .before .before .before in
     let a = from .args in
     let g = graph (a .ends) in
-    let u = usable (c .before .lasting .result) in
+    let u = usable (record { has = c .before .lasting-links .result }) in
     let carried = carries (kept (a .events .now) (a .free .now)) (a .bandwidth .0) (a .duration .0) (a .start .0) in
     let pre = from .pre in
+    let spanned = ap (λ end. enough-span (a .events .now) (a .start .0) end) (c .before .before .end-of .ensures) in
     let same : (l : ℕ) → l < g .count → u l ≡ carried l =
-    λ l h. c .before .lasting .ensures l h ∙ enough-span-carries (pre .clock) (pre .times) (a .events .now) (a .free .now) (pre .are-events) l (a .bandwidth .0) (a .start .0) (a .duration .0) (pre .not-past) (omega arith) in
+    λ l h. c .before .lasting-links .ensures l (omega (arith, pre .in-range .few)) ∙ ap (λ look. look l (a .bandwidth .0) (a .free .now)) spanned
+    ∙ enough-span-carries (pre .clock) (pre .times) (a .events .now) (a .free .now) (pre .are-events) l (a .bandwidth .0) (a .start .0) (a .duration .0) (pre .not-past) (omega arith) in
     c .find-route .ensures ∙ ap answer (route-agree g g u carried (record { count = refl; from = λ l h. refl; to = λ l h. refl; usable = same }) (a .destination) (a .source))
 
 pub path-at-spec : {M : Type 1} → statement M
-path-at-spec = tie.close (tie.spec add-t12 lasting-requires find-route-requires returns)
+path-at-spec = tie.close (tie.spec end-of-requires lasting-links-requires find-route-requires returns)
