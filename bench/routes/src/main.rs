@@ -2,8 +2,8 @@
 //! one run. Both answer the same question; the graphs are made before the clock starts. Prints nanoseconds for each
 //! search, and the ratio.
 
-use routes::graphs::full_question;
-use routes::{as_path, find_route, InRange, Path, Question, NODES};
+use routes_tests::graphs::full_question;
+use routes_tests::{as_path, find_route, InRange, Path, Question, NODES};
 use std::collections::VecDeque;
 use std::hint::black_box;
 use std::time::Instant;
@@ -49,7 +49,7 @@ fn plain(q: &Question) -> Path {
 fn on_arrays(q: &Question) -> Path {
     const NONE: u8 = u8::MAX;
     let mut first_in = [NONE; NODES];
-    let mut next_in = [NONE; routes::LINKS];
+    let mut next_in = [NONE; routes_tests::LINKS];
     for (link, next) in next_in.iter_mut().enumerate().take(q.ends.count) {
         if q.set.has[link] {
             let to = q.ends.to[link] as usize;
@@ -115,12 +115,6 @@ fn main() {
     let arrays = timed(&questions, on_arrays);
     println!("path search, {GRAPHS} graphs of 32 nodes and 64 links, {TURNS} turns");
     println!("compiled search     {ours:7.0} ns");
-    println!(
-        "plain search        {theirs:7.0} ns, ratio {:.2}",
-        ours / theirs
-    );
-    println!(
-        "search on arrays    {arrays:7.0} ns, ratio {:.2}",
-        ours / arrays
-    );
+    println!("plain search        {theirs:7.0} ns, ratio {:.2}", ours / theirs);
+    println!("search on arrays    {arrays:7.0} ns, ratio {:.2}", ours / arrays);
 }

@@ -1,12 +1,12 @@
 // The free table: what each link has free from each event on, 64 figures a row. The choice of a start and the desk call
 // this. It knows rows, links and minutes; it never sees a path or a booking.
-use timeline::clear_from;
 use timeline::row_at;
 use units::Bandwidth;
 use units::LINKS;
 use units::LinkNumber;
 use units::Minute;
 use units::ROW;
+use units::clear_from;
 ghost use mathlib.Core.Path.{_≡_};
 ghost use mathlib.Core.Bool.{false, _&&_};
 ghost use Prim.Native.Nat.{_-_, _*_, _≤_, _<_};

@@ -11,12 +11,12 @@ use lib.Dec.{ltb}
 use lib.ListN.{length, getD, take, drop, replicate, take-append-drop, length-append}
 use lib.Seq.{take-at, drop-append-add, length-take-le}
 use Rattle.units.specs.Limits.{most-links, most-events}
-use Rattle.units.specs.Lists.{padded, member}
+use Rattle.units.specs.Lists.{padded, member, put-in}
 use Rattle.units.proofs.Tests.{member-tells, absent, Rising, Side, below, above, side}
 use Rattle.units.proofs.Padded.{length-padded, padded-at, padded-insert, rows, length-rows, all-rows, rows-insert}
 use Rattle.timeline.specs.Events.{later, events, further, row-at}
 use Rattle.timeline.specs.EventTable.{count-events, filled, only-clock}
-use Rattle.timeline.specs.Insertion.{put-in, with-event, with-row, with-span, with-span-rows, Room}
+use Rattle.timeline.specs.Insertion.{with-event, with-row, with-span, with-span-rows, Room}
 use Rattle.timeline.proofs.Events.{later-skips, later-inserts, later-rises, later-again, member-later, slot, insert-split}
 use Rattle.timeline.proofs.Steady.{ChangesAt, last-event, none-between, steady, last-event-is, last-event-le, last-event-ge, event-found}
 use Rattle.timeline.proofs.Rows.{passed-slot, passed-padded}

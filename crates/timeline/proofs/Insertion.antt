@@ -11,8 +11,9 @@ use borrow.Author.Tests.{lt-ltb, le-ltb, ltb-true}
 use Rattle.units.specs.Limits.{most-events}
 use Rattle.timeline.specs.Events.{further, passed, row-at}
 use Rattle.timeline.specs.EventTable.{filled, count-events}
-use Rattle.timeline.specs.Insertion.{put-in, missing, if-missing, with-event, with-row, Room}
-use Rattle.timeline.proofs.Pieces.{put-in-part}
+use Rattle.units.specs.Lists.{put-in}
+use Rattle.timeline.specs.Insertion.{missing, if-missing, with-event, with-row, Room}
+use Rattle.units.proofs.Pieces.{put-in-part}
 
 -- ---- the row that holds is one of the events
 

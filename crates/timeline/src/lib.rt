@@ -3,14 +3,16 @@
 // never looks at what a row holds.
 use units::Minute;
 use units::ROW;
+use units::clear_from;
 ghost use mathlib.Core.Path.{_≡_};
-ghost use mathlib.Core.List.{[], _∷_, _++_};
-ghost use Prim.Native.Nat.{_+_, _-_, _≤_};
-ghost use lib.ListN.{length, take, replicate};
+ghost use mathlib.Core.List.{[], _∷_};
+ghost use Prim.Native.Nat.{_+_, _≤_};
+ghost use lib.ListN.{length, take};
 ghost use Rattle.units.specs.Limits.{most-links, most-events};
+ghost use Rattle.units.specs.Lists.{put-in};
 ghost use Rattle.timeline.specs.Events.{row-at};
 ghost use Rattle.timeline.specs.EventTable.{count-events, only-clock};
-ghost use Rattle.timeline.specs.Insertion.{put-in, with-event, with-row, with-span, with-span-rows, Room};
+ghost use Rattle.timeline.specs.Insertion.{with-event, with-row, with-span, with-span-rows, Room};
 
 // The row that holds in a minute: that of the last event at or before it, or the first one where there is none.
 #[no_mangle]
@@ -47,18 +49,6 @@ pub extern "C" fn count_events(events: &[u32]) -> usize
         count += 1;
     }
     count
-}
-
-// Zeros from place `from` on.
-pub fn clear_from(table: &mut [u32], from: usize)
-    requires { ⌜ from ≤ length (now table) ⌝ }
-    ensures { λ _. ⌜ now (table .exit) ≡ take from (now (table .entry)) ++ replicate (length (now (table .entry)) - from) 0 ⌝ }
-{
-    let mut i = from;
-    while i < table.len() {
-        table[i] = 0;
-        i += 1;
-    }
 }
 
 // The event table of a desk without bookings: the clock alone.

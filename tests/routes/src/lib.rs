@@ -33,12 +33,7 @@ pub struct Path {
 
 mod exported {
     extern "C" {
-        pub fn find_route(
-            ends: super::LinkEnds,
-            set: super::LinkSet,
-            source: u32,
-            destination: u32,
-        ) -> super::Path;
+        pub fn find_route(ends: super::LinkEnds, set: super::LinkSet, source: u32, destination: u32) -> super::Path;
     }
 }
 
@@ -61,11 +56,7 @@ impl Question {
     pub fn in_range(self) -> Option<InRange> {
         let node = |n: &u32| (*n as usize) < NODES;
         let count = self.ends.count;
-        let fits = count <= LINKS
-            && self.ends.from[..count]
-                .iter()
-                .chain(&self.ends.to[..count])
-                .all(node);
+        let fits = count <= LINKS && self.ends.from[..count].iter().chain(&self.ends.to[..count]).all(node);
         fits.then_some(InRange(self))
     }
 }
@@ -83,10 +74,7 @@ pub fn find_route(InRange(q): &InRange) -> Path {
 /// A list of links as the search answers it: zero past its last link, and no link where there is no route.
 pub fn as_path(links: Option<Vec<u32>>) -> Path {
     let list = links.unwrap_or_default();
-    let mut path = Path {
-        count: list.len() as u32,
-        links: [0; PATH_LINKS],
-    };
+    let mut path = Path { count: list.len() as u32, links: [0; PATH_LINKS] };
     path.links[..list.len()].copy_from_slice(&list);
     path
 }

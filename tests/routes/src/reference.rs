@@ -45,13 +45,7 @@ impl Trial<'_> {
 
 /// Of all simple paths, or ways back to the source, the one of fewest links, the lowest of these.
 pub fn of_all_simple_paths(question: &Question, steps: u32) -> Result<Option<Vec<u32>>, TooMany> {
-    let mut trial = Trial {
-        question,
-        met: [false; NODES],
-        path: Vec::new(),
-        best: None,
-        steps_left: steps,
-    };
+    let mut trial = Trial { question, met: [false; NODES], path: Vec::new(), best: None, steps_left: steps };
     if let Some(met) = trial.met.get_mut(question.source as usize) {
         *met = true;
     }
@@ -71,11 +65,7 @@ pub fn by_length(question: &Question) -> Option<Vec<u32>> {
                 .links_out(node)
                 .filter_map(|link| {
                     let rest = lowest[question.ends.to[link] as usize].as_ref()?;
-                    Some(
-                        std::iter::once(link as u32)
-                            .chain(rest.iter().copied())
-                            .collect::<Vec<u32>>(),
-                    )
+                    Some(std::iter::once(link as u32).chain(rest.iter().copied()).collect::<Vec<u32>>())
                 })
                 .min()
         };

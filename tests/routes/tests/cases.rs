@@ -1,38 +1,27 @@
 //! The compiled search on graphs whose routes are known.
 
-use routes::{LinkEnds, LinkSet, Path, Question, LINKS, NODES, PATH_LINKS};
+use routes_tests::{LinkEnds, LinkSet, Path, Question, LINKS, NODES, PATH_LINKS};
 
 fn ask(links: &[(u32, u32)], source: u32, destination: u32) -> Question {
-    let mut ends = LinkEnds {
-        count: links.len(),
-        from: [7; LINKS],
-        to: [9; LINKS],
-    };
+    let mut ends = LinkEnds { count: links.len(), from: [7; LINKS], to: [9; LINKS] };
     for (link, &(from, to)) in links.iter().enumerate() {
         ends.from[link] = from;
         ends.to[link] = to;
     }
-    Question {
-        ends,
-        set: LinkSet { has: [true; LINKS] },
-        source,
-        destination,
-    }
+    Question { ends, set: LinkSet { has: [true; LINKS] }, source, destination }
 }
 
 fn find_route(q: &Question) -> Path {
-    routes::find_route(&q.in_range().unwrap())
+    routes_tests::find_route(&q.in_range().unwrap())
 }
 
 fn path(links: &[u32]) -> Path {
-    routes::as_path(Some(links.to_vec()))
+    routes_tests::as_path(Some(links.to_vec()))
 }
 
 /// Node n to node n + 1, and the last to the first.
 fn ring(nodes: usize) -> Vec<(u32, u32)> {
-    (0..nodes)
-        .map(|n| (n as u32, ((n + 1) % nodes) as u32))
-        .collect()
+    (0..nodes).map(|n| (n as u32, ((n + 1) % nodes) as u32)).collect()
 }
 
 #[test]
@@ -49,20 +38,11 @@ fn session_of_document_01() {
 #[test]
 fn lower_number_at_the_first_difference() {
     // links 0 and 3 lead by node 1, links 1 and 2 by node 3: the first difference decides, not the last
-    assert_eq!(
-        find_route(&ask(&[(0, 1), (0, 3), (3, 2), (1, 2)], 0, 2)),
-        path(&[0, 3])
-    );
+    assert_eq!(find_route(&ask(&[(0, 1), (0, 3), (3, 2), (1, 2)], 0, 2)), path(&[0, 3]));
     // parallel links
-    assert_eq!(
-        find_route(&ask(&[(1, 0), (0, 1), (0, 1)], 0, 1)),
-        path(&[1])
-    );
+    assert_eq!(find_route(&ask(&[(1, 0), (0, 1), (0, 1)], 0, 1)), path(&[1]));
     // fewer links come before lower numbers
-    assert_eq!(
-        find_route(&ask(&[(0, 1), (1, 2), (0, 2)], 0, 2)),
-        path(&[2])
-    );
+    assert_eq!(find_route(&ask(&[(0, 1), (1, 2), (0, 2)], 0, 2)), path(&[2]));
 }
 
 #[test]

@@ -1,8 +1,8 @@
 //! The compiled search against the two reference searches, on random graphs with fixed seeds.
 
-use routes::graphs::{full_question, question};
-use routes::reference::{by_length, of_all_simple_paths, TooMany};
-use routes::{as_path, find_route, Question};
+use routes_tests::graphs::{full_question, question};
+use routes_tests::reference::{by_length, of_all_simple_paths, TooMany};
+use routes_tests::{as_path, find_route, Question};
 
 const GRAPHS: u64 = 60_000;
 const FULL_GRAPHS: u64 = 10_000;
@@ -16,24 +16,13 @@ struct Compared {
 /// Compares on one question: the count of links, and whether all simple paths could be tried.
 fn compare(kind: &str, seed: u64, q: &Question) -> Compared {
     let answer = find_route(&q.in_range().unwrap());
-    assert_eq!(
-        answer,
-        as_path(by_length(q)),
-        "{kind}, seed {seed}: by length"
-    );
+    assert_eq!(answer, as_path(by_length(q)), "{kind}, seed {seed}: by length");
     let all = of_all_simple_paths(q, STEPS);
     let tried_all = all != Err(TooMany);
     if let Ok(best) = all {
-        assert_eq!(
-            answer,
-            as_path(best),
-            "{kind}, seed {seed}: of all simple paths"
-        );
+        assert_eq!(answer, as_path(best), "{kind}, seed {seed}: of all simple paths");
     }
-    Compared {
-        count: answer.count,
-        tried_all,
-    }
+    Compared { count: answer.count, tried_all }
 }
 
 #[test]
@@ -47,20 +36,12 @@ fn agrees_with_the_references() {
     }
     println!("{GRAPHS} graphs, all simple paths tried on {tried_all}; routes by count of links: {found:?}");
     assert!(tried_all > GRAPHS as u32 / 2);
-    assert!(
-        found[0] > 5_000
-            && found[1] > 5_000
-            && found[2] > 1_000
-            && found[20..].iter().sum::<u32>() > 100
-    );
+    assert!(found[0] > 5_000 && found[1] > 5_000 && found[2] > 1_000 && found[20..].iter().sum::<u32>() > 100);
 }
 
 #[test]
 fn agrees_on_full_graphs() {
-    let tried_all = (0..FULL_GRAPHS)
-        .filter(|&seed| compare("full question", seed, &full_question(seed)).tried_all)
-        .count();
-    println!(
-        "{FULL_GRAPHS} graphs of 32 nodes and 64 links, all simple paths tried on {tried_all}"
-    );
+    let tried_all =
+        (0..FULL_GRAPHS).filter(|&seed| compare("full question", seed, &full_question(seed)).tried_all).count();
+    println!("{FULL_GRAPHS} graphs of 32 nodes and 64 links, all simple paths tried on {tried_all}");
 }

@@ -7,7 +7,7 @@ use lib.ListN.{drop}
 use Rattle.units.specs.Limits.{most-links, most-events}
 use Rattle.timeline.specs.Events.{row-at}
 use Rattle.timeline.proofs.Rows.{row-inside, row-later}
-use Rattle.timeline.proofs.Pieces.{rest-whole, length-rest}
+use Rattle.units.proofs.Pieces.{rest-whole, length-rest}
 use Rattle.free_table.specs.Looking.{enough-rows, enough-span}
 use borrow.Author.Needs.{needs}
 use Rattle.free_table.proofs.has_bandwidth.Statement.{statement}

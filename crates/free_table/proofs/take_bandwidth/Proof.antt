@@ -8,7 +8,7 @@ use borrow.Rule.Slice.PartMut.{take-put}
 use Rattle.units.specs.Limits.{most-links, most-events}
 use Rattle.timeline.specs.Events.{row-at}
 use Rattle.timeline.proofs.Rows.{row-inside, row-later}
-use Rattle.timeline.proofs.Pieces.{length-rest, part-back}
+use Rattle.units.proofs.Pieces.{length-rest, part-back}
 use Rattle.free_table.specs.Taking.{less-rows, less-span}
 use borrow.Author.Needs.{needs}
 use Rattle.free_table.proofs.take_bandwidth.Statement.{statement}

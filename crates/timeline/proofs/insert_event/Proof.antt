@@ -6,8 +6,8 @@ use native.Mathlib.Omega.{arith}
 use lib.ListN.{getD, take}
 use Rattle.units.specs.Limits.{most-links, most-events}
 use Rattle.timeline.specs.Events.{row-at}
-use Rattle.timeline.specs.Insertion.{put-in}
-use Rattle.timeline.proofs.Pieces.{length-rest, part-back}
+use Rattle.units.specs.Lists.{put-in}
+use Rattle.units.proofs.Pieces.{length-rest, part-back}
 use Rattle.timeline.proofs.Insertion.{row-fits, with-event-there, with-row-there, event-put, row-put}
 use borrow.Author.Needs.{needs}
 use Rattle.timeline.proofs.insert_event.Statement.{statement}

@@ -3,7 +3,8 @@ use mathlib.Core.Path.{_≡_, refl, ap, _∙_}
 use Prim.Native.Nat.{_-_, _≤_}
 use native.Mathlib.Omega.{arith}
 use lib.ListN.{length, getD, set, length-set}
-use Rattle.timeline.proofs.Pieces.{moved, moved-none, moved-more, moved-all, written-over}
+use Rattle.units.proofs.Pieces.{moved, moved-none, moved-more, moved-all}
+use Rattle.timeline.proofs.Single.{written-over}
 use Rattle.timeline.proofs.put_event.Statement.{statement}
 use Rattle.timeline.proofs.put_event.Tie as tie
 

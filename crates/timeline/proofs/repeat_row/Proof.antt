@@ -4,7 +4,7 @@ use Prim.Native.Nat.{_-_, _≤_}
 use native.Mathlib.Omega.{arith}
 use lib.ListN.{length, getD, set, length-set}
 use Rattle.units.specs.Limits.{most-links}
-use Rattle.timeline.proofs.Pieces.{moved, moved-none, moved-more, moved-all}
+use Rattle.units.proofs.Pieces.{moved, moved-none, moved-more, moved-all}
 use Rattle.timeline.proofs.repeat_row.Statement.{statement}
 use Rattle.timeline.proofs.repeat_row.Tie as tie
 

@@ -4,7 +4,7 @@ use native.Mathlib.Omega.{arith}
 use lib.ListN.{length-set}
 use Rattle.units.specs.Limits.{most-events}
 use Rattle.timeline.specs.EventTable.{only-clock}
-use Rattle.timeline.proofs.Pieces.{clock-alone}
+use Rattle.timeline.proofs.Single.{clock-alone}
 use borrow.Author.Needs.{needs}
 use Rattle.timeline.proofs.reset_events.Statement.{statement}
 use Rattle.timeline.proofs.reset_events.Tie as tie
