@@ -7,7 +7,7 @@ use lib.Dec.{leb}
 use lib.ListN.{getD, getD-replicate}
 use lib.Seq.{getD-drop}
 use Rattle.units.specs.Limits.{most-links}
-use Rattle.timeline.proofs.Pieces.{rest-whole, length-rest}
+use Rattle.units.proofs.Pieces.{rest-whole, length-rest}
 use Rattle.free_table.specs.Looking.{enough-rows, Marks}
 use Rattle.free_table.proofs.Marking.{enough-no-row, enough-row-more}
 use Rattle.free_table.proofs.lasting_in_rows.Statement.{statement}

@@ -7,7 +7,7 @@ use lib.ListN.{drop}
 use borrow.Author.Needs.{needs}
 use Rattle.units.specs.Limits.{most-links, most-events}
 use Rattle.timeline.proofs.Rows.{row-inside, row-later}
-use Rattle.timeline.proofs.Pieces.{rest-whole, length-rest}
+use Rattle.units.proofs.Pieces.{rest-whole, length-rest}
 use Rattle.free_table.specs.Looking.{enough-rows, enough-span}
 use Rattle.free_table.proofs.lasting_links.Statement.{statement}
 use Rattle.free_table.proofs.lasting_links.Tie as tie
