@@ -3,41 +3,34 @@
 use mathlib.Core.Path.{_≡_, refl, sym, ap, ap₂, subst, _∙_}
 use mathlib.Core.List.{List, [], _∷_, _++_, Permᴰ·symm}
 use mathlib.Core.Bool.{Bool, true, false, not}
-use Prim.Native.Nat.{ℕ, suc, _+_, _-_, _*_, _≤_, _<_}
+use Prim.Native.Nat.{ℕ, suc, _+_, _-_, _≤_, _<_}
 use native.Mathlib.Omega.{arith}
 use lib.Dec.{leb, ltb, eqb}
 use lib.ListN.{length, take, drop, length-append, length-drop, take-append-drop}
 use lib.Seq.{length-take-le}
 use Rattle.units.specs.declared.Link.{Link}
-use Rattle.units.specs.declared.Head.{Head}
-use Rattle.units.specs.Limits.{most-links, most-bookings, most-events, place-size}
-use Rattle.units.specs.Lists.{select, Within, Distinct}
+use Rattle.units.specs.Limits.{most-bookings, place-size}
+use Rattle.units.specs.Lists.{select, Distinct}
 use Rattle.units.proofs.Tests.{Rising}
 use Rattle.units.proofs.Permuted.{all-permuted}
-use Rattle.units.proofs.Parts.{select-part, map-part, rising-part, rising-distinct}
+use Rattle.units.proofs.Parts.{select-part, map-part, rising-part}
 use Rattle.units.proofs.Padded.{Rows}
 use Rattle.timeline.specs.Events.{further as one-further}
 use Rattle.book.specs.declared.Booking.{Booking as Place}
 use Rattle.book.specs.declared.Standing.{Standing}
-use Rattle.book.specs.declared.Standing.the-variants.{At, Nowhere}
+use Rattle.book.specs.declared.Standing.the-variants.{At}
 use Rattle.book.specs.Places.{figures, find, slot, slot-among, with-booking, without-place, still-standing, only-places, further}
 use Rattle.book.proofs.Found.{Place as Found, there, missing}
 use Rattle.book.proofs.Filled.{number-of, filled, find-filled, drop-filled, count-filled, slot-filled, insert-filled, remove-filled}
-use Rattle.desk_core.specs.declared.LinkTable.{LinkTable}
-use Rattle.desk_core.specs.Plain.{Booking, Plain, until}
+use Rattle.desk_core.specs.Plain.{Booking, until}
 use Rattle.desk_core.specs.Calls.{numbers, put-in, take-out, move-to}
-use Rattle.desk_core.specs.Tables.{Tables, tables, held, place, insert-by-number, by-number, plain-in, event-table, free-table, book-table}
+use Rattle.desk_core.specs.Tables.{Tables, tables, held, place, insert-by-number, by-number, event-table, free-table, book-table}
 use Rattle.desk_core.specs.Sound.{Obeys}
-use Rattle.desk_core.specs.LinkTables.{links-of}
-use Rattle.desk_core.specs.Lent.{lent}
-use Rattle.desk_core.specs.Rebuilding.{CanRebuild}
 use Rattle.desk_core.specs.Updating.{Fine}
 use Rattle.desk_core.proofs.Book.{by-number-is, by-number-fixed, Short, place-rows}
 use Rattle.desk_core.proofs.Tests.{Sized, sized-tells}
 use Rattle.desk_core.proofs.Obeys.{sound-facts, sound-obeys, sound-tables, held-count, all-short}
 use Rattle.desk_core.proofs.Updates.{book-slot, book-split, book-without}
-use Rattle.desk_core.proofs.LinkColumns.{links-count}
-use Rattle.desk_core.proofs.RebuiltBook.{can-rebuild, events-anew, free-anew}
 
 -- ---- the place of a number
 
@@ -61,7 +54,7 @@ slot-most n (c ∷ cs) = by (leb (c .number) n) (slot-most n cs)
 
 -- ---- sound tables
 
-module _ (links : List Link) (t : Tables) (fine : Fine links t) where
+module _ {links : List Link} {t : Tables} (fine : Fine links t) where
   pub sizes : Sized links t
   sizes = sized-tells links t .0 (fine .is-sized)
 
@@ -92,11 +85,11 @@ module _ (links : List Link) (t : Tables) (fine : Fine links t) where
 
   book-filled : t .book ≡ filled place (held t .bookings)
   unfolding tables
-  book-filled = ap (λ x. x .book) (sound-tables links t (fine .is-sound)) ∙ ap (λ (bs : List Booking). filled place bs) (by-number-fixed 0 (held t .bookings) in-order)
+  book-filled = ap (λ x. x .book) (sound-tables links t (fine .is-sound)) ∙ ap (filled place) (by-number-fixed 0 (held t .bookings) in-order)
 
   -- some of the bookings are still in order
   part-filled : (test : Booking → Bool) → filled place (select test (held t .bookings)) ≡ book-table (record { clock = 0; bookings = select test (held t .bookings) })
-  part-filled test = ap (λ (bs : List Booking). filled place bs) (sym (by-number-fixed 0 (select test bookings) (rising-part 0 (map-part (λ b. b .number) (select-part test bookings)) in-order)))
+  part-filled test = ap (filled place) (sym (by-number-fixed 0 (select test bookings) (rising-part 0 (map-part (λ b. b .number) (select-part test bookings)) in-order)))
     where
       bookings : List Booking
       bookings = held t .bookings
@@ -124,13 +117,13 @@ module _ (links : List Link) (t : Tables) (fine : Fine links t) where
           let most = book-obeys .not-too-many in
           let few : length xs + suc (length ys) ≤ most-bookings = omega (arith, held-count t) in
           let rest : select (λ c. not (eqb number (c .number))) bookings ≡ xs ++ ys
-              = ap (select (λ c. not (eqb number (c .number)))) split ∙ book-without number xs b ys same (subst (λ (bs : List Booking). Distinct (numbers bs)) split (book-obeys .numbers-differ)) in
+          = ap (select (λ c. not (eqb number (c .number)))) split ∙ book-without number xs b ys same (subst (λ (bs : List Booking). Distinct (numbers bs)) split (book-obeys .numbers-differ)) in
           record {
             inside = omega arith;
             book-is =
-                ap₂ without-place (sym at) (book-filled ∙ ap (λ (bs : List Booking). filled place bs) split)
+                ap₂ without-place (sym at) (book-filled ∙ ap (filled place) split)
                 ∙ remove-filled place xs b ys (subst (Rows place place-size) split rows-right) few
-                ∙ ap (λ (bs : List Booking). filled place bs) (sym rest)
+                ∙ ap (filled place) (sym rest)
                 ∙ part-filled (λ c. not (eqb number (c .number)));
             count-is = omega (arith, ap length rest, length-append xs ys);
           }
@@ -161,9 +154,9 @@ module _ (links : List Link) (t : Tables) (fine : Fine links t) where
     pub book-entered : (row : Place) → figures row ≡ place b → with-booking (slot (b .number) (t .book) (t .head .bookings)) row (t .book) ≡ book-table (put-in b (held t))
     unfolding by-number
     book-entered row e =
-        ap₂ (λ i (book : List ℕ). with-booking i row book) (slot-is ∙ sym front) (book-filled ∙ ap (λ (bs : List Booking). filled place bs) (sym (take-append-drop k bookings)))
+        ap₂ (λ i (book : List ℕ). with-booking i row book) (slot-is ∙ sym front) (book-filled ∙ ap (filled place) (sym (take-append-drop k bookings)))
         ∙ insert-filled place (take k bookings) b (drop k bookings) rows few row e
-        ∙ ap (λ (bs : List Booking). filled place bs) (sym ordered)
+        ∙ ap (filled place) (sym ordered)
       where
         bookings : List Booking
         bookings = held t .bookings

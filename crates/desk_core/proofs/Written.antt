@@ -10,8 +10,8 @@ use Rattle.units.specs.declared.Link.{Link}
 use Rattle.units.specs.declared.Head.{Head}
 use Rattle.units.specs.declared.Minute.{Minute}
 use Rattle.units.specs.declared.Request.{Request}
-use Rattle.units.specs.Limits.{most-links, most-bookings, most-events, most-hops, place-size}
-use Rattle.units.specs.Lists.{Within, count-from}
+use Rattle.units.specs.Limits.{most-links, most-bookings, most-hops, place-size}
+use Rattle.units.specs.Lists.{count-from}
 use Rattle.timeline.specs.EventTable.{only-clock}
 use Rattle.timeline.specs.Insertion.{Room}
 use Rattle.free_table.specs.Figures.{all-free}
@@ -55,18 +55,21 @@ module _ (columns : LinkTable) (few : columns .count ≤ most-links) (given : co
 
 -- ---- all anew
 
-module _ (columns : LinkTable) (p : Plain) (o : Obeys (links-of columns) p) {book : List ℕ} {n : ℕ} (is-book : book ≡ book-table p) (is-count : n ≡ length (p .bookings)) where
+-- sound tables, and the book table of the plain book after the call with its count
+module _ (columns : LinkTable) {t : Tables} (fine : Fine (links-of columns) t) {p : Plain} (o : Obeys (links-of columns) p) {book : List ℕ} {n : ℕ} (is-book : book ≡ book-table p) (is-count : n ≡ length (p .bookings)) where
   -- what `rebuild` asks
-  pub anew-asks : Within 1 most-links (length (links-of columns)) → (es t : List ℕ) → length es ≡ most-events → length t ≡ most-events * most-links → CanRebuild columns (p .clock) book n es t
-  anew-asks count es t a b = rw (is-book, is-count) (can-rebuild columns p o (rw links-count at count) es t a b)
+  pub anew-asks : CanRebuild columns (p .clock) book n (t .events) (t .free)
+  anew-asks =
+      let right = sizes fine in
+      rw (is-book, is-count) (can-rebuild columns p o (rw links-count at (right .links-right)) (t .events) (t .free) (right .events-right) (right .free-right))
 
   -- and the tables with what it gives
-  pub anew-tables : {es t : List ℕ} {k : ℕ} → k ≡ length (links-of columns) → es ≡ event-table (plain-in (p .clock) book n) → t ≡ free-table (links-of columns) (plain-in (p .clock) book n)
-      → lent (head-with (p .clock) k n) es t book ≡ tables (links-of columns) p
-  anew-tables k a b =
-      tables-are (links-of columns) p (λ i. head-with (p .clock) (k i) (is-count i))
-      (a ∙ (λ i. event-table (plain-in (p .clock) (is-book i) (is-count i))) ∙ events-anew columns p o)
-      (b ∙ (λ i. free-table (links-of columns) (plain-in (p .clock) (is-book i) (is-count i))) ∙ free-anew columns p o)
+  pub anew-tables : {es' t' : List ℕ} → es' ≡ event-table (plain-in (p .clock) book n) → t' ≡ free-table (links-of columns) (plain-in (p .clock) book n)
+      → lent (head-with (p .clock) (t .head .links) n) es' t' book ≡ tables (links-of columns) p
+  anew-tables a b =
+      tables-are (links-of columns) p (ap₂ (head-with (p .clock)) (links-are fine) is-count)
+      (a ∙ ap₂ (λ (x : List ℕ) k. event-table (plain-in (p .clock) x k)) is-book is-count ∙ events-anew columns p o)
+      (b ∙ ap₂ (λ (x : List ℕ) k. free-table (links-of columns) (plain-in (p .clock) x k)) is-book is-count ∙ free-anew columns p o)
       is-book
 
 -- ---- one booking more
@@ -75,7 +78,7 @@ module _ (columns : LinkTable) (p : Plain) (o : Obeys (links-of columns) p) {boo
 abbrev pub place-of : ℕ → Request → Minute → Path → Place
 place-of number r start path = record { number = number; start = start; duration = r .duration; bandwidth = r .bandwidth; count = path .count; links = path .links }
 
-module _ (links : List Link) (t : Tables) (fine : Fine links t) (number : ℕ) (r : Request) (start : Minute) (path : Path) (g : Grantable links (held t) number r start path) where
+module _ {links : List Link} {t : Tables} (fine : Fine links t) {number : ℕ} {r : Request} {start : Minute} {path : Path} (g : Grantable links (held t) number r start path) where
   short : length (take (path .count) (path .links)) ≤ most-hops
   short = g .booking-right .path-right .length-right .1
 
@@ -84,7 +87,7 @@ module _ (links : List Link) (t : Tables) (fine : Fine links t) (number : ℕ) (
 
   can-add : CanAdd links (held t) (place-of number r start path)
   can-add = record {
-    few-links = sizes links t fine .links-right .1;
+    few-links = sizes fine .links-right .1;
     room = g .room;
     right = right-in links (put-in (booked number r start path) (held t)) (held t) (booked number r start path) (g .booking-right .still-stands) (g .booking-right);
     count-right = omega (arith, ap (λ q. q .count) (g .path-is), short);
@@ -92,21 +95,21 @@ module _ (links : List Link) (t : Tables) (fine : Fine links t) (number : ℕ) (
 
   -- what `insert_booking` asks, and `add_booking`
   pub enter-asks : slot number (t .book) (t .head .bookings) < most-bookings
-  enter-asks = slot-inside links t fine (booked number r start path) short (g .room)
+  enter-asks = slot-inside fine (booked number r start path) short (g .room)
 
   pub grant-asks : Room (t .events) (t .free) 2 × PlaceRight (place-of number r start path)
-  grant-asks = rw (events-are links t fine, free-are links t fine) (add-asks links (held t) (place-of number r start path) can-add)
+  grant-asks = rw (events-are fine, free-are fine) (add-asks links (held t) (place-of number r start path) can-add)
 
   -- and the tables with what they give
   pub entered-tables : {es' t' book' : List ℕ} {answer : Bool} → Adds (place-of number r start path) (t .events) (t .free) es' t' answer
       → book' ≡ with-booking (slot number (t .book) (t .head .bookings)) (place-of number r start path) (t .book)
       → lent (head-with (t .head .clock .0) (t .head .links) (t .head .bookings + 1)) es' t' book' ≡ tables links (put-in (booked number r start path) (held t))
   entered-tables {es'} {t'} {book'} {answer} a b =
-      let more = added links (held t) (place-of number r start path) can-add es' t' answer (rw (events-are links t fine, free-are links t fine) at a) in
+      let more = added links (held t) (place-of number r start path) can-add es' t' answer (rw (events-are fine, free-are fine) at a) in
       tables-are links (put-in (booked number r start path) (held t)) head-is (more .events-are) (more .free-are)
-      (b ∙ book-entered links t fine (booked number r start path) short (g .room) (place-of number r start path) figures-are)
+      (b ∙ book-entered fine (booked number r start path) short (g .room) (place-of number r start path) figures-are)
     where
       head-is : head-with (t .head .clock .0) (t .head .links) (t .head .bookings + 1) ≡ head-of links (put-in (booked number r start path) (held t))
       head-is =
           let more : t .head .bookings + 1 ≡ length (put-in (booked number r start path) (held t) .bookings) = omega (arith, held-count t) in
-          ap₂ (head-with (t .head .clock .0)) (links-are links t fine) more
+          ap₂ (head-with (t .head .clock .0)) (links-are fine) more

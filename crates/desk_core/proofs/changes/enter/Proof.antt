@@ -1,19 +1,12 @@
 -- `enter` meets its contract: the booking is put in at the place of its number, and added to the events and the figures.
-use mathlib.Core.Path.{_≡_, ap, _∙_}
+use mathlib.Core.Path.{ap, _∙_}
 use native.Mathlib.Omega.{arith}
 use borrow.Author.Needs.{needs}
 use Rattle.book.specs.Places.{with-booking}
-use Rattle.desk_core.specs.Tables.{Tables}
-use Rattle.desk_core.specs.LinkTables.{links-of}
-use Rattle.desk_core.specs.Lent.{lent}
 use Rattle.desk_core.proofs.InOrder.{sizes, few-bookings}
 use Rattle.desk_core.proofs.Written.{place-of, enter-asks, grant-asks, entered-tables}
 use Rattle.desk_core.proofs.changes.enter.Statement.{statement}
 use Rattle.desk_core.proofs.changes.enter.Tie as tie
-
--- the tables as they are lent
-abbrev came : tie.Start → Tables
-came s = lent (s .args .head) (s .args .events .now) (s .args .free .now) (s .args .book .now)
 
 cast-slot : tie.Need-cast-slot
 cast-slot c = search needs
@@ -21,23 +14,20 @@ cast-slot c = search needs
 slot-requires : tie.Need-slot-requires
 slot-requires c κs =
     let s = c .before .before .before .before .before .before .before .before in
-    omega (arith, few-bookings (links-of (s .args .links)) (came s) (s .pre .0), sizes (links-of (s .args .links)) (came s) (s .pre .0) .book-right)
+    omega (arith, few-bookings (s .pre .0), sizes (s .pre .0) .book-right)
 
 insert-booking-requires : tie.Need-insert-booking-requires
 insert-booking-requires c κs =
     let s = c .before .before .before .before .before .before .before .before .before .before in
-    let a = s .args in
-    omega
-    (arith, c .before .slot .ensures, enter-asks (links-of (a .links)) (came s) (s .pre .0) (a .number) (a .request) (a .start) (a .path) (s .pre .1), sizes (links-of (a .links)) (came s) (s .pre .0) .book-right)
+    omega (arith, c .before .slot .ensures, enter-asks (s .pre .0) (s .pre .1), sizes (s .pre .0) .book-right)
 
 add-booking-requires : tie.Need-add-booking-requires
 add-booking-requires c κs =
     let s = c .before .before .before .before .before .before .before .before .before .before .before .before .before .before .before in
-    let a = s .args in
-    grant-asks (links-of (a .links)) (came s) (s .pre .0) (a .number) (a .request) (a .start) (a .path) (s .pre .1)
+    grant-asks (s .pre .0) (s .pre .1)
 
 add-t27 : tie.Need-add-t27
-add-t27 c = let s = c .before .before .before .before .before .before .before .before .before .before .before .before .before .before .before .before .before .before .before .before .before .before in omega (arith, few-bookings (links-of (s .args .links)) (came s) (s .pre .0))
+add-t27 c = let s = c .before .before .before .before .before .before .before .before .before .before .before .before .before .before .before .before .before .before .before .before .before .before in omega (arith, few-bookings (s .pre .0))
 
 same-length : tie.Need-same-length
 same-length c = search needs
@@ -55,7 +45,7 @@ returns c =
     let found = inserted .before .before in
     let s = found .before .before .before .before .before .before .before .before .before in
     let a = s .args in
-    entered-tables (links-of (a .links)) (came s) (s .pre .0) (a .number) (a .request) (a .start) (a .path) (s .pre .1) (added .add-booking .ensures)
+    entered-tables (s .pre .0) (s .pre .1) (added .add-booking .ensures)
     (inserted .insert-booking .ensures ∙ ap (λ i. with-booking i (place-of (a .number) (a .request) (a .start) (a .path)) (a .book .now)) (found .slot .ensures))
 
 pub enter-spec : {M : Type 1} → statement M

@@ -9,7 +9,7 @@ use Rattle.desk_core.specs.Sound.{Obeys}
 use Rattle.desk_core.specs.LinkTables.{links-of}
 use Rattle.desk_core.specs.Lent.{lent}
 use Rattle.desk_core.proofs.Step.{obeys-take-out}
-use Rattle.desk_core.proofs.InOrder.{sizes, book-obeys, few-bookings, links-are, Released, released}
+use Rattle.desk_core.proofs.InOrder.{sizes, book-obeys, few-bookings, Released, released}
 use Rattle.desk_core.proofs.Written.{anew-asks, anew-tables}
 use Rattle.desk_core.proofs.changes.release_place.Statement.{statement}
 use Rattle.desk_core.proofs.changes.release_place.Tie as tie
@@ -22,10 +22,10 @@ abbrev after : tie.Start → Plain
 after s = take-out (s .args .number) (held (came s))
 
 obeyed : (s : tie.Start) → Obeys (links-of (s .args .links)) (after s)
-obeyed s = obeys-take-out (links-of (s .args .links)) (held (came s)) (s .args .number) (book-obeys (links-of (s .args .links)) (came s) (s .pre .0))
+obeyed s = obeys-take-out (links-of (s .args .links)) (held (came s)) (s .args .number) (book-obeys (s .pre .0))
 
-gone : (s : tie.Start) → Released (links-of (s .args .links)) (came s) (s .pre .0) (s .args .number) (s .args .place)
-gone s = released (links-of (s .args .links)) (came s) (s .pre .0) (s .args .number) (s .args .place) (s .pre .1)
+gone : (s : tie.Start) → Released (s .pre .0) (s .args .number) (s .args .place)
+gone s = released (s .pre .0) (s .args .number) (s .args .place) (s .pre .1)
 
 cast-count : tie.Need-cast-count
 cast-count c = search needs
@@ -33,7 +33,7 @@ cast-count c = search needs
 remove-place-requires : tie.Need-remove-place-requires
 remove-place-requires c κs =
     let s = c .before .before .before .before .before .before in
-    omega (arith, gone s .inside, few-bookings (links-of (s .args .links)) (came s) (s .pre .0), sizes (links-of (s .args .links)) (came s) (s .pre .0) .book-right)
+    omega (arith, gone s .inside, few-bookings (s .pre .0), sizes (s .pre .0) .book-right)
 
 -- the function's entry, from the book without the place
 abbrev entry : tie.After-remove-place → tie.Start
@@ -49,8 +49,7 @@ rebuild-requires : tie.Need-rebuild-requires
 rebuild-requires c κs =
     let removed = c .before .before .before .before .before in
     let s = entry removed in
-    let right = sizes (links-of (s .args .links)) (came s) (s .pre .0) in
-    anew-asks (s .args .links) (after s) (obeyed s) (book-is removed) (gone s .count-is) (right .links-right) (s .args .events .now) (s .args .free .now) (right .events-right) (right .free-right)
+    anew-asks (s .args .links) (s .pre .0) (obeyed s) (book-is removed) (gone s .count-is)
 
 sub-t21 : tie.Need-sub-t21
 sub-t21 c = omega (arith, gone (entry (c .before .before .before .before .before .before .before .before .before .before .before)) .inside)
@@ -69,7 +68,7 @@ returns c =
     let rebuilt = c .before .before .before .before .before in
     let removed = rebuilt .before .before .before .before .before .before in
     let s = entry removed in
-    anew-tables (s .args .links) (after s) (obeyed s) (book-is removed) (gone s .count-is) (links-are (links-of (s .args .links)) (came s) (s .pre .0)) (rebuilt .rebuild .ensures .0) (rebuilt .rebuild .ensures .1)
+    anew-tables (s .args .links) (s .pre .0) (obeyed s) (book-is removed) (gone s .count-is) (rebuilt .rebuild .ensures .0) (rebuilt .rebuild .ensures .1)
 
 pub release-place-spec : {M : Type 1} → statement M
 release-place-spec =

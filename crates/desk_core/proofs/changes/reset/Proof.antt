@@ -1,5 +1,5 @@
 -- `reset` meets its contract: the clock alone, the capacities and no booking are the tables of the empty book.
-use mathlib.Core.Path.{_≡_, ap, _∙_}
+use mathlib.Core.Path.{ap, _∙_}
 use Prim.Native.Nat.{_-_, _≤_}
 use native.Mathlib.Omega.{arith}
 use lib.ListN.{length, replicate}
