@@ -155,7 +155,6 @@ module _ (links : LinkTable) (t : Tables) (f : Fine (links-of links) t) where
       grantable checks = record {
         booking-right = rw booked-is (obeys-booked (links-of links) (held t) obeys number r q in-range-number new room (s .grant) good .bookings-right .0);
         path-is = s .path-is ∙ ap search.path-of (sym path-kept);
-        number-new = new;
         room = room;
       }
         where

@@ -12,7 +12,7 @@ use Rattle.units.specs.declared.Link.{Link}
 use Rattle.units.specs.Limits.{most-bookings, last-minute, last-shown}
 use Rattle.units.specs.Lists.{within, member, count-from}
 use Rattle.units.specs.Search.{Found, at, nothing, firstFrom}
-use Rattle.units.proofs.Search.{first-here, first-after, firstFrom-found}
+use Rattle.units.proofs.Search.{first-here, first-after}
 use Rattle.units.proofs.Padded.{length-count}
 use Rattle.book.specs.declared.Standing.{Standing}
 use Rattle.book.specs.declared.Standing.the-variants.{At, Nowhere}
@@ -137,18 +137,3 @@ module _ (links : List Link) (p : Plain) where
   pub show-0 : (l m : ℕ) → l < length links → within (p .clock) last-shown m ≡ true → first-refusal (own-checks links p (Ask.show l m)) ≡ 0
   unfolding checked
   show-0 l m h e = rw (lt-ltb l (length links) h, e)
-
--- a number that is found stands at that place
-pub found-at : (places : List ℕ) (n x i : ℕ) → find x places n ≡ At i → (i < n) × (number-at places i ≡ x)
-unfolding find
-found-at places n x i e = by (firstFrom 0 n (λ k. eqb (number-at places k) x)) refl e
-  where
-    test : ℕ → Bool
-    test k = eqb (number-at places k) x
-
-    by : (f : Found) → firstFrom 0 n test ≡ f → standing f ≡ At i → (i < n) × (number-at places i ≡ x)
-    by (at j) q s =
-        let h = firstFrom-found test 0 n q in
-        let same : j ≡ i = cc in
-        (omega (arith, h .high, same), eqb-true (number-at places i) x (rw same at (h .passes)))
-    by nothing q s = absurd (let z : _≡_ {A = ℕ} 0 1 = cc in omega arith)

@@ -11,7 +11,7 @@ use Rattle.desk_core.specs.LinkTables.{links-of}
 use Rattle.desk_core.specs.Lent.{lent}
 use Rattle.desk_core.proofs.Exits.{refused-with, stopped, accepted, handed}
 use Rattle.desk_core.proofs.TableChecks.{fine, tables-refused, places-fit}
-use Rattle.desk_core.proofs.OwnChecks.{cancel-4, cancel-9, cancel-0, stands-found, found-at}
+use Rattle.desk_core.proofs.OwnChecks.{cancel-4, cancel-9, cancel-0, stands-found}
 use Rattle.desk_core.proofs.cancel.Statement.{statement}
 use Rattle.desk_core.proofs.cancel.Tie as tie
 
@@ -28,7 +28,7 @@ same-length-3 : tie.Need-same-length-3
 same-length-3 c = search needs
 
 returns : tie.Need-returns
-returns c =     let a = c .before .before .before .before .before .before .before .before .args in
+returns c = let a = c .before .before .before .before .before .before .before .before .args in
     let l = links-of (a .links) in
     let t = lent (a .head) (now (a .events)) (now (a .free)) (now (a .book)) in
     handed l t (ask (Ask.cancel (a .number))) (refused-with _ t) (tables-refused l t (Ask.cancel (a .number)) _ (c .before .table-refusal .ensures) (c .if1 .taken)) refl refl
@@ -46,7 +46,7 @@ same-length-6 : tie.Need-same-length-6
 same-length-6 c = search needs
 
 returns-2 : tie.Need-returns-2
-returns-2 c =     let a = c .before .before .before .before .before .before .before .before .before .before .args in
+returns-2 c = let a = c .before .before .before .before .before .before .before .before .before .before .args in
     let l = links-of (a .links) in
     let t = lent (a .head) (now (a .events)) (now (a .free)) (now (a .book)) in
     let f = fine l t (sym (c .before .before .before .table-refusal .ensures) ∙ c .before .before .if1 .left) in
@@ -56,7 +56,7 @@ cast-find : tie.Need-cast-find
 cast-find c = search needs
 
 find-requires : tie.Need-find-requires
-find-requires c κs =     let a = c .before .before .before .before .before .before .before .before .before .before .before .before .args in
+find-requires c κs = let a = c .before .before .before .before .before .before .before .before .before .before .before .before .args in
     let l = links-of (a .links) in
     let t = lent (a .head) (now (a .events)) (now (a .free)) (now (a .book)) in
     places-fit (a .links) t (fine l t (sym (c .before .before .before .before .before .table-refusal .ensures) ∙ c .before .before .before .before .if1 .left))
@@ -77,7 +77,7 @@ same-length-9 : tie.Need-same-length-9
 same-length-9 c = search needs
 
 returns-3 : tie.Need-returns-3
-returns-3 c =     let a = c .before .before .before .before .before .before .before .before .before .before .before .before .before .before .before .args in
+returns-3 c = let a = c .before .before .before .before .before .before .before .before .before .before .before .before .before .before .before .args in
     let l = links-of (a .links) in
     let t = lent (a .head) (now (a .events)) (now (a .free)) (now (a .book)) in
     let f = fine l t (sym (c .before .before .before .before .before .before .before .before .table-refusal .ensures) ∙ c .before .before .before .before .before .before .before .if1 .left) in
@@ -85,11 +85,10 @@ returns-3 c =     let a = c .before .before .before .before .before .before .bef
     handed l t (ask (Ask.cancel (a .number))) (refused-with 9 t) (stopped l t (Ask.cancel (a .number)) (f .is-sized) (f .is-sound) 9 (cancel-9 l (held t) (a .number) (sym (c .before .before .before .before .before .before .in-range .ensures) ∙ not-false _ (c .before .before .before .before .before .if2 .left)) none) (λ e. let z : _≡_ {A = ℕ} 9 0 = e in omega arith)) refl refl
 
 release-place-requires : tie.Need-release-place-requires
-release-place-requires c κs =     let a = c .before .before .before .before .before .before .before .before .before .before .before .before .before .before .before .before .before .before .before .args in
+release-place-requires c κs = let a = c .before .before .before .before .before .before .before .before .before .before .before .before .before .before .before .before .before .before .before .args in
     let l = links-of (a .links) in
     let t = lent (a .head) (now (a .events)) (now (a .free)) (now (a .book)) in
-    let at = found-at (now (a .book)) (a .head .bookings) (a .number) _ (sym (c .before .before .before .before .before .before .find .ensures) ∙ c .before .before .before .before .place .given .1) in
-    (fine l t (sym (c .before .before .before .before .before .before .before .before .before .before .before .before .table-refusal .ensures) ∙ c .before .before .before .before .before .before .before .before .before .before .before .if1 .left), (at .0, at .1))
+    (fine l t (sym (c .before .before .before .before .before .before .before .before .before .before .before .before .table-refusal .ensures) ∙ c .before .before .before .before .before .before .before .before .before .before .before .if1 .left), sym (c .before .before .before .before .before .before .find .ensures) ∙ c .before .before .before .before .place .given .1)
 
 same-length-10 : tie.Need-same-length-10
 same-length-10 c = search needs
@@ -101,7 +100,7 @@ same-length-12 : tie.Need-same-length-12
 same-length-12 c = search needs
 
 returns-4 : tie.Need-returns-4
-returns-4 c =     let a = c .before .before .before .before .before .before .before .before .before .before .before .before .before .before .before .before .before .before .before .before .before .before .before .before .before .before .args in
+returns-4 c = let a = c .before .before .before .before .before .before .before .before .before .before .before .before .before .before .before .before .before .before .before .before .before .before .before .before .before .before .args in
     let l = links-of (a .links) in
     let t = lent (a .head) (now (a .events)) (now (a .free)) (now (a .book)) in
     let f = fine l t (sym (c .before .before .before .before .before .before .before .before .before .before .before .before .before .before .before .before .before .before .before .table-refusal .ensures) ∙ c .before .before .before .before .before .before .before .before .before .before .before .before .before .before .before .before .before .before .if1 .left) in

@@ -28,7 +28,7 @@ same-length-3 : tie.Need-same-length-3
 same-length-3 c = search needs
 
 returns : tie.Need-returns
-returns c =     let a = c .before .before .before .before .before .before .before .before .args in
+returns c = let a = c .before .before .before .before .before .before .before .before .args in
     let l = links-of (a .links) in
     let t = lent (a .head) (now (a .events)) (now (a .free)) (now (a .book)) in
     handed l t (ask (Ask.move-clock (a .minute .0))) (refused-with _ t) (tables-refused l t (Ask.move-clock (a .minute .0)) _ (c .before .table-refusal .ensures) (c .if1 .taken)) refl refl
@@ -43,7 +43,7 @@ same-length-6 : tie.Need-same-length-6
 same-length-6 c = search needs
 
 returns-2 : tie.Need-returns-2
-returns-2 c =     let a = c .before .before .before .before .before .before .before .before .before .before .args in
+returns-2 c = let a = c .before .before .before .before .before .before .before .before .before .before .args in
     let l = links-of (a .links) in
     let t = lent (a .head) (now (a .events)) (now (a .free)) (now (a .book)) in
     let f = fine l t (sym (c .before .before .before .table-refusal .ensures) ∙ c .before .before .if1 .left) in
@@ -59,14 +59,14 @@ same-length-9 : tie.Need-same-length-9
 same-length-9 c = search needs
 
 returns-3 : tie.Need-returns-3
-returns-3 c =     let a = c .before .before .before .before .before .before .before .before .before .before .before .before .before .args in
+returns-3 c = let a = c .before .before .before .before .before .before .before .before .before .before .before .before .before .args in
     let l = links-of (a .links) in
     let t = lent (a .head) (now (a .events)) (now (a .free)) (now (a .book)) in
     let f = fine l t (sym (c .before .before .before .before .before .before .table-refusal .ensures) ∙ c .before .before .before .before .before .if1 .left) in
     handed l t (ask (Ask.move-clock (a .minute .0))) (refused-with 10 t) (stopped l t (Ask.move-clock (a .minute .0)) (f .is-sized) (f .is-sound) 10 (move-10 l (held t) (a .minute .0) (c .before .before .before .if2 .left) (c .if3 .taken)) (λ e. let z : _≡_ {A = ℕ} 10 0 = e in omega arith)) refl refl
 
 advance-requires : tie.Need-advance-requires
-advance-requires c κs =     let a = c .before .before .before .before .before .before .before .before .before .before .before .before .before .before .before .before .args in
+advance-requires c κs = let a = c .before .before .before .before .before .before .before .before .before .before .before .before .before .before .before .before .args in
     let l = links-of (a .links) in
     let t = lent (a .head) (now (a .events)) (now (a .free)) (now (a .book)) in
     (fine l t (sym (c .before .before .before .before .before .before .before .before .before .table-refusal .ensures) ∙ c .before .before .before .before .before .before .before .before .if1 .left), c .before .before .before .before .before .before .if2 .left)
@@ -81,7 +81,7 @@ same-length-12 : tie.Need-same-length-12
 same-length-12 c = search needs
 
 returns-4 : tie.Need-returns-4
-returns-4 c =     let a = c .before .before .before .before .before .before .before .before .before .before .before .before .before .before .before .before .before .before .before .before .before .before .before .args in
+returns-4 c = let a = c .before .before .before .before .before .before .before .before .before .before .before .before .before .before .before .before .before .before .before .before .before .before .before .args in
     let l = links-of (a .links) in
     let t = lent (a .head) (now (a .events)) (now (a .free)) (now (a .book)) in
     let f = fine l t (sym (c .before .before .before .before .before .before .before .before .before .before .before .before .before .before .before .before .table-refusal .ensures) ∙ c .before .before .before .before .before .before .before .before .before .before .before .before .before .before .before .if1 .left) in

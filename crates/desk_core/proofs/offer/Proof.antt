@@ -25,7 +25,7 @@ refused-requires : tie.Need-refused-requires
 refused-requires c κs = search needs
 
 returns : tie.Need-returns
-returns c =     let a = c .before .before .before .before .before .before .args in
+returns c = let a = c .before .before .before .before .before .before .args in
     let l = links-of (a .links) in
     let t = lent (a .head) (now (a .events)) (now (a .free)) (now (a .book)) in
     c .refused .ensures ∙ handed-grant l t (ask (Ask.offer (a .request))) (refused-with _ t) (tables-refused l t (Ask.offer (a .request)) _ (c .before .before .table-refusal .ensures) (c .before .if1 .taken))
@@ -37,14 +37,14 @@ refused-requires-2 : tie.Need-refused-requires-2
 refused-requires-2 c κs = search needs
 
 returns-2 : tie.Need-returns-2
-returns-2 c =     let a = c .before .before .before .before .before .before .before .before .args in
+returns-2 c = let a = c .before .before .before .before .before .before .before .before .args in
     let l = links-of (a .links) in
     let t = lent (a .head) (now (a .events)) (now (a .free)) (now (a .book)) in
     let f = fine l t (sym (c .before .before .before .before .table-refusal .ensures) ∙ c .before .before .before .if1 .left) in
     c .refused2 .ensures ∙ handed-grant l t (ask (Ask.offer (a .request))) (refused-with _ t) (stopped l t (Ask.offer (a .request)) (f .is-sized) (f .is-sound) _ (sym (c .before .before .offer-refusal .ensures)) (c .before .if2 .taken))
 
 best-start-requires : tie.Need-best-start-requires
-best-start-requires c κs =     let a = c .before .before .before .before .before .before .before .args in
+best-start-requires c κs = let a = c .before .before .before .before .before .before .before .args in
     let l = links-of (a .links) in
     let t = lent (a .head) (now (a .events)) (now (a .free)) (now (a .book)) in
     let f = fine l t (sym (c .before .before .before .table-refusal .ensures) ∙ c .before .before .if1 .left) in
@@ -62,7 +62,7 @@ refused-requires-3 : tie.Need-refused-requires-3
 refused-requires-3 c κs = search needs
 
 returns-3 : tie.Need-returns-3
-returns-3 c =     let a = c .before .before .before .before .before .before .before .before .before .before .before .before .args in
+returns-3 c = let a = c .before .before .before .before .before .before .before .before .before .before .before .before .args in
     let l = links-of (a .links) in
     let t = lent (a .head) (now (a .events)) (now (a .free)) (now (a .book)) in
     let f = fine l t (sym (c .before .before .before .before .before .before .before .before .table-refusal .ensures) ∙ c .before .before .before .before .before .before .before .if1 .left) in
@@ -75,7 +75,7 @@ started-requires : tie.Need-started-requires
 started-requires c κs = search needs
 
 returns-4 : tie.Need-returns-4
-returns-4 c =     let a = c .before .before .before .before .before .before .before .before .before .before .before .before .before .args in
+returns-4 c = let a = c .before .before .before .before .before .before .before .before .before .before .before .before .before .args in
     let l = links-of (a .links) in
     let t = lent (a .head) (now (a .events)) (now (a .free)) (now (a .book)) in
     let f = fine l t (sym (c .before .before .before .before .before .before .before .before .before .table-refusal .ensures) ∙ c .before .before .before .before .before .before .before .before .if1 .left) in

@@ -36,13 +36,13 @@ same-length-3 : tie.Need-same-length-3
 same-length-3 c = search needs
 
 returns : tie.Need-returns
-returns c =     let a = c .before .before .before .before .before .before .before .before .before .args in
+returns c = let a = c .before .before .before .before .before .before .before .before .before .args in
     let l = links-of (a .links) in
     let t = lent (a .head) (now (a .events)) (now (a .free)) (now (a .book)) in
     handed-booking l t (ask (Ask.book (a .number) (a .request))) (refused-with _ t) (tables-refused l t (Ask.book (a .number) (a .request)) _ (c .before .before .table-refusal .ensures) (c .before .if1 .taken)) (c .refused .ensures) refl
 
 book-refusal-requires : tie.Need-book-refusal-requires
-book-refusal-requires c κs =     let a = c .before .before .before .before .before .before .before .before .before .args in
+book-refusal-requires c κs = let a = c .before .before .before .before .before .before .before .before .before .args in
     let l = links-of (a .links) in
     let t = lent (a .head) (now (a .events)) (now (a .free)) (now (a .book)) in
     places-fit (a .links) t (fine l t (sym (c .before .before .table-refusal .ensures) ∙ c .before .if1 .left))
@@ -60,14 +60,14 @@ same-length-6 : tie.Need-same-length-6
 same-length-6 c = search needs
 
 returns-2 : tie.Need-returns-2
-returns-2 c =     let a = c .before .before .before .before .before .before .before .before .before .before .before .before .args in
+returns-2 c = let a = c .before .before .before .before .before .before .before .before .before .before .before .before .args in
     let l = links-of (a .links) in
     let t = lent (a .head) (now (a .events)) (now (a .free)) (now (a .book)) in
     let f = fine l t (sym (c .before .before .before .before .before .table-refusal .ensures) ∙ c .before .before .before .before .if1 .left) in
     handed-booking l t (ask (Ask.book (a .number) (a .request))) (refused-with _ t) (stopped l t (Ask.book (a .number) (a .request)) (f .is-sized) (f .is-sound) _ (sym (c .before .before .book-refusal .ensures)) (c .before .if2 .taken)) (c .refused2 .ensures) refl
 
 best-start-requires : tie.Need-best-start-requires
-best-start-requires c κs =     let a = c .before .before .before .before .before .before .before .before .before .before .before .before .before .args in
+best-start-requires c κs = let a = c .before .before .before .before .before .before .before .before .before .before .before .before .before .args in
     let l = links-of (a .links) in
     let t = lent (a .head) (now (a .events)) (now (a .free)) (now (a .book)) in
     let f = fine l t (sym (c .before .before .before .before .before .before .table-refusal .ensures) ∙ c .before .before .before .before .before .if1 .left) in
@@ -95,7 +95,7 @@ same-length-9 : tie.Need-same-length-9
 same-length-9 c = search needs
 
 returns-3 : tie.Need-returns-3
-returns-3 c =     let a = c .before .before .before .before .before .before .before .before .before .before .before .before .before .before .before .before .before .before .args in
+returns-3 c = let a = c .before .before .before .before .before .before .before .before .before .before .before .before .before .before .before .before .before .before .args in
     let l = links-of (a .links) in
     let t = lent (a .head) (now (a .events)) (now (a .free)) (now (a .book)) in
     let f = fine l t (sym (c .before .before .before .before .before .before .before .before .before .before .before .table-refusal .ensures) ∙ c .before .before .before .before .before .before .before .before .before .before .if1 .left) in
@@ -106,7 +106,7 @@ returns-3 c =     let a = c .before .before .before .before .before .before .bef
     handed-booking l t (ask (Ask.book (a .number) (a .request))) (_) (accepted l t (Ask.book (a .number) (a .request)) (f .is-sized) (f .is-sound) passes (refuse 8) (best-none (a .links) t f (a .request) q none)) (c .refused3 .ensures) refl
 
 enter-requires : tie.Need-enter-requires
-enter-requires c κs =     let a = c .before .before .before .before .before .before .before .before .before .before .before .before .before .before .before .before .before .before .before .before .before .args in
+enter-requires c κs = let a = c .before .before .before .before .before .before .before .before .before .before .before .before .before .before .before .before .before .before .before .before .before .args in
     let l = links-of (a .links) in
     let t = lent (a .head) (now (a .events)) (now (a .free)) (now (a .book)) in
     let f = fine l t (sym (c .before .before .before .before .before .before .before .before .before .before .before .before .before .before .table-refusal .ensures) ∙ c .before .before .before .before .before .before .before .before .before .before .before .before .before .if1 .left) in
@@ -129,7 +129,7 @@ same-length-12 : tie.Need-same-length-12
 same-length-12 c = search needs
 
 returns-4 : tie.Need-returns-4
-returns-4 c =     let a = c .before .before .before .before .before .before .before .before .before .before .before .before .before .before .before .before .before .before .before .before .before .before .before .before .before .before .before .before .before .args in
+returns-4 c = let a = c .before .before .before .before .before .before .before .before .before .before .before .before .before .before .before .before .before .before .before .before .before .before .before .before .before .before .before .before .before .args in
     let l = links-of (a .links) in
     let t = lent (a .head) (now (a .events)) (now (a .free)) (now (a .book)) in
     let f = fine l t (sym (c .before .before .before .before .before .before .before .before .before .before .before .before .before .before .before .before .before .before .before .before .before .before .table-refusal .ensures) ∙ c .before .before .before .before .before .before .before .before .before .before .before .before .before .before .before .before .before .before .before .before .before .if1 .left) in

@@ -26,7 +26,7 @@ not-shown-requires : tie.Need-not-shown-requires
 not-shown-requires c κs = search needs
 
 returns : tie.Need-returns
-returns c =     let a = c .before .before .before .before .before .before .args in
+returns c = let a = c .before .before .before .before .before .before .args in
     let l = links-of (a .links) in
     let t = lent (a .head) (now (a .events)) (now (a .free)) (now (a .book)) in
     c .not-shown .ensures ∙ handed-shown l t (ask (Ask.show (a .link .0) (a .minute .0))) (refused-with _ t) (tables-refused l t (Ask.show (a .link .0) (a .minute .0)) _ (c .before .before .table-refusal .ensures) (c .before .if1 .taken))
@@ -38,7 +38,7 @@ not-shown-requires-2 : tie.Need-not-shown-requires-2
 not-shown-requires-2 c κs = search needs
 
 returns-2 : tie.Need-returns-2
-returns-2 c =     let a = c .before .before .before .before .before .before .before .before .before .args in
+returns-2 c = let a = c .before .before .before .before .before .before .before .before .before .args in
     let l = links-of (a .links) in
     let t = lent (a .head) (now (a .events)) (now (a .free)) (now (a .book)) in
     let f = fine l t (sym (c .before .before .before .before .before .table-refusal .ensures) ∙ c .before .before .before .before .if1 .left) in
@@ -51,20 +51,20 @@ not-shown-requires-3 : tie.Need-not-shown-requires-3
 not-shown-requires-3 c κs = search needs
 
 returns-3 : tie.Need-returns-3
-returns-3 c =     let a = c .before .before .before .before .before .before .before .before .before .before .before .args in
+returns-3 c = let a = c .before .before .before .before .before .before .before .before .before .before .before .args in
     let l = links-of (a .links) in
     let t = lent (a .head) (now (a .events)) (now (a .free)) (now (a .book)) in
     let f = fine l t (sym (c .before .before .before .before .before .before .before .table-refusal .ensures) ∙ c .before .before .before .before .before .before .if1 .left) in
     c .not-shown3 .ensures ∙ handed-shown l t (ask (Ask.show (a .link .0) (a .minute .0))) (refused-with 4 t) (stopped l t (Ask.show (a .link .0) (a .minute .0)) (f .is-sized) (f .is-sound) 4 (show-4-minute l (held t) (a .link .0) (a .minute .0) (rw (links-count (a .links)) (c .before .before .before .if2 .left)) (sym (c .before .before .in-range .ensures) ∙ not-true _ (c .before .if3 .taken))) (λ e. let z : _≡_ {A = ℕ} 4 0 = e in omega arith))
 
 free-figure-requires : tie.Need-free-figure-requires
-free-figure-requires c κs =     let a = c .before .before .before .before .before .before .before .before .before .before .args in
+free-figure-requires c κs = let a = c .before .before .before .before .before .before .before .before .before .before .args in
     let l = links-of (a .links) in
     let t = lent (a .head) (now (a .events)) (now (a .free)) (now (a .book)) in
     figure-asks (a .links) t (fine l t (sym (c .before .before .before .before .before .before .table-refusal .ensures) ∙ c .before .before .before .before .before .if1 .left)) (a .link .0) (c .before .before .if2 .left)
 
 returns-4 : tie.Need-returns-4
-returns-4 c =     let a = c .before .before .before .before .before .before .before .before .before .before .before .args in
+returns-4 c = let a = c .before .before .before .before .before .before .before .before .before .before .before .args in
     let l = links-of (a .links) in
     let t = lent (a .head) (now (a .events)) (now (a .free)) (now (a .book)) in
     let f = fine l t (sym (c .before .before .before .before .before .before .before .table-refusal .ensures) ∙ c .before .before .before .before .before .before .if1 .left) in
