@@ -1,31 +1,43 @@
 -- The steps of the searches for a number and for its place.
-use mathlib.Core.Path.{_≡_, refl, sym, ap, _∙_}
-use mathlib.Core.List.{List}
+use mathlib.Core.Path.{_≡_, refl}
+use mathlib.Core.List.{List, [], _∷_, map}
 use mathlib.Core.Bool.{Bool, true, false}
-use Prim.Native.Nat.{ℕ, zero, suc, _+_, _-_, _≤_, _<_}
+use Prim.Native.Nat.{ℕ, suc, _+_, _-_, _≤_, _<_}
 use native.Mathlib.Numerals.{add-one}
 use native.Mathlib.Omega.{arith}
-use lib.Dec.{leb, eqb}
-use borrow.Author.Tests.{lt-leb, le-leb, eq-eqb, ne-eqb}
-use Rattle.units.specs.Search.{Found, at, nothing, firstFrom}
+use borrow.Author.Tests.{lt-leb, le-leb}
+use Rattle.units.specs.Lists.{count-from}
+use Rattle.units.specs.Search.{at, nothing, firstFrom}
 use Rattle.units.proofs.Search.{first-here, first-after}
-use Rattle.book.specs.Places.{number-at, standing, slot-from}
+use Rattle.book.specs.Places.{number-at, slot-among}
 
 -- one place further, of those that are left
-pub left-over : (i n : ℕ) → i < n → n - i ≡ suc (n - (i + 1))
+left-over : (i n : ℕ) → i < n → n - i ≡ suc (n - (i + 1))
 left-over i n h = omega arith
 
-pub slot-stops : (number : ℕ) (book : List ℕ) (i n : ℕ) → i < n → number < number-at book i → slot-from number book i (n - i) ≡ 0
-unfolding slot-from
-slot-stops number book i n l h = rw (left-over i n l, lt-leb (number-at book i) number h)
+-- the n - i numbers from place i on
+abbrev pub numbers-from : List ℕ → ℕ → ℕ → List ℕ
+numbers-from book i n = map (number-at book) (count-from i (n - i))
 
-pub slot-goes-on : (number : ℕ) (book : List ℕ) (i n : ℕ) → i < n → number-at book i ≤ number → slot-from number book i (n - i) ≡ suc (slot-from number book (i + 1) (n - (i + 1)))
-unfolding slot-from
-slot-goes-on number book i n l h = rw (left-over i n l, le-leb (number-at book i) number h, add-one i)
+pub numbers-more : (book : List ℕ) (i n : ℕ) → i < n → numbers-from book i n ≡ number-at book i ∷ numbers-from book (i + 1) n
+unfolding count-from
+numbers-more book i n h = rw (left-over i n h, add-one i)
 
-pub slot-ends : (number : ℕ) (book : List ℕ) (i n : ℕ) → n ≤ i → slot-from number book i (n - i) ≡ 0
-unfolding slot-from
-slot-ends number book i n h = let z : n - i ≡ 0 = omega arith in rw z
+pub numbers-end : (book : List ℕ) (i n : ℕ) → n ≤ i → numbers-from book i n ≡ []
+unfolding count-from
+numbers-end book i n h = let z : n - i ≡ 0 = omega arith in rw z
+
+pub slot-stops : (number first : ℕ) (others : List ℕ) → number < first → slot-among number (first ∷ others) ≡ 0
+unfolding slot-among
+slot-stops number first others h = rw (lt-leb first number h)
+
+pub slot-goes-on : (number first : ℕ) (others : List ℕ) → first ≤ number → slot-among number (first ∷ others) ≡ suc (slot-among number others)
+unfolding slot-among
+slot-goes-on number first others h = rw (le-leb first number h)
+
+pub slot-ends : (number : ℕ) → slot-among number [] ≡ 0
+unfolding slot-among
+slot-ends number = refl
 
 pub found-here : (test : ℕ → Bool) (i n : ℕ) → i < n → test i ≡ true → firstFrom i (n - i) test ≡ at i
 found-here test i n l h = rw (left-over i n l) (first-here test i (n - (i + 1)) h)

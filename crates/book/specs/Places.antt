@@ -1,7 +1,7 @@
 -- The book table as its owner lends it: places of thirty-six figures, a booking each. It knows nothing of what is free.
 use mathlib.Core.List.{List, [], _∷_, _++_, map, flatten}
 use mathlib.Core.Bool.{Bool, true, false}
-use Prim.Native.Nat.{ℕ, zero, suc, _+_, _*_}
+use Prim.Native.Nat.{ℕ, suc, _+_, _*_}
 use lib.Dec.{leb, ltb, eqb}
 use lib.ListN.{getD, take, drop, replicate}
 use Rattle.units.specs.Limits.{most-hops, most-bookings, place-size}
@@ -16,7 +16,7 @@ abbrev pub number-at : List ℕ → ℕ → ℕ
 number-at book i = getD book (i * place-size) 0
 
 -- document 01's booking at place i: number, start, duration, bandwidth, count of links, and the path with the zeros behind it
-unfoldable pub booking-in : List ℕ → ℕ → Booking
+abbrev pub booking-in : List ℕ → ℕ → Booking
 booking-in book i = record {
   number = number-at book i;
   start = record { 0 = getD book (i * place-size + 1) 0 };
@@ -26,7 +26,7 @@ booking-in book i = record {
   links = take most-hops (drop (i * place-size + 5) book);
 }
 
--- its thirty-six figures
+-- the thirty-six figures of a booking
 abbrev pub figures : Booking → List ℕ
 figures b = b .number ∷ b .start .0 ∷ b .duration .0 ∷ b .bandwidth .0 ∷ b .count ∷ b .links
 
@@ -34,18 +34,32 @@ figures b = b .number ∷ b .start .0 ∷ b .duration .0 ∷ b .bandwidth .0 ∷
 abbrev pub release : ℕ → ℕ → ℕ
 release start held = start + held
 
--- where a number stands among the first n places
+-- what a search found, as the place where a number stands
 abbrev pub standing : Found → Standing
 standing (at i) = At i
 standing nothing = Nowhere
 
+-- where a number stands among the first n places: the first that has it
 unfoldable pub find : ℕ → List ℕ → ℕ → Standing
 find number book n = standing (firstFrom 0 n (λ i. eqb (number-at book i) number))
 
--- the place of a new number: how many of the places from i on, n in all, have a number at or below it before one has not
-unfoldable pub slot-from : ℕ → List ℕ → ℕ → ℕ → ℕ
-slot-from number book i zero = 0
-slot-from number book i (suc n) = elim (leb (number-at book i) number) [ true ↦ suc (slot-from number book (suc i) n) | false ↦ 0 ]
+-- the booking numbers of the first n places
+abbrev pub numbers-in : List ℕ → ℕ → List ℕ
+numbers-in book n = map (number-at book) (count-from 0 n)
+
+-- one place further if the test passes
+abbrev pub further : Bool → ℕ → ℕ
+further true place = suc place
+further false place = 0
+
+-- how many of these rising numbers come before a new one
+unfoldable pub slot-among : ℕ → List ℕ → ℕ
+slot-among number [] = 0
+slot-among number (first ∷ others) = further (leb first number) (slot-among number others)
+
+-- the place of a new number among the first n places
+abbrev pub slot : ℕ → List ℕ → ℕ → ℕ
+slot number book n = slot-among number (numbers-in book n)
 
 -- the book with a booking put in at place i: those behind it move up
 unfoldable pub with-booking : ℕ → Booking → List ℕ → List ℕ
@@ -55,10 +69,11 @@ with-booking i b book = put-in (i * place-size) (figures b) book
 unfoldable pub without-place : ℕ → List ℕ → List ℕ
 without-place i book = take (i * place-size) book ++ (drop (i * place-size + place-size) book ++ replicate place-size 0)
 
--- the thirty-six figures of place i, and those of the first n places
+-- the thirty-six figures of place i
 abbrev pub place-in : List ℕ → ℕ → List ℕ
 place-in book i = take place-size (drop (i * place-size) book)
 
+-- those of each of the first n places
 abbrev pub places-in : List ℕ → ℕ → List (List ℕ)
 places-in book n = map (place-in book) (count-from 0 n)
 
@@ -66,9 +81,10 @@ places-in book n = map (place-in book) (count-from 0 n)
 abbrev pub stands-at : ℕ → List ℕ → Bool
 stands-at clock place = ltb clock (release (getD place 1 0) (getD place 2 0))
 
--- the first n places that still stand at the clock, with zeros behind them, and how many they are
+-- those of the first n places that still stand at the clock
 unfoldable pub still-standing : ℕ → List ℕ → ℕ → List (List ℕ)
 still-standing clock book n = select (stands-at clock) (places-in book n)
 
+-- the book of these places: zeros behind them
 abbrev pub only-places : List (List ℕ) → List ℕ
 only-places places = padded (most-bookings * place-size) (flatten places)

@@ -1,13 +1,28 @@
 // The book table: 64 places of 36 figures, a booking each by rising number, zero past the last. The desk calls this to
 // read a place, find a number, put a booking in, take one out and drop those that have ended. It never sees what is free.
-use units::{clear_from, Bandwidth, Duration, Minute, PATH_LINKS, PLACE};
-
+use units::Bandwidth;
+use units::Duration;
+use units::Minute;
+use units::PATH_LINKS;
+use units::PLACE;
+use units::clear_from;
 ghost use mathlib.Core.Path.{_≡_};
 ghost use mathlib.Core.List.{_++_};
-ghost use Prim.Native.Nat.{_+_, _-_, _*_, _≤_, _<_};
+ghost use Prim.Native.Nat.{_+_, _-_, _*_, _≤_};
 ghost use lib.ListN.{length, take, drop, replicate};
 ghost use Rattle.units.specs.Limits.{most-hops, most-bookings, place-size};
-ghost use Rattle.book.specs.Places.{booking-in, figures, find, slot-from, with-booking, without-place, place-in, still-standing, only-places, release};
+ghost use Rattle.book.specs.Places.{booking-in, figures, find, slot, with-booking, without-place, place-in, release, stands-at, still-standing, only-places};
+
+// Where the figures of a place stand in it; its number stands first.
+const START: usize = 1;
+
+const DURATION: usize = 2;
+
+const BANDWIDTH: usize = 3;
+
+const COUNT: usize = 4;
+
+const PATH: usize = 5;
 
 // A booking as a place of the book holds it: a path of `count` links, zero past the last.
 #[repr(C)]
@@ -48,11 +63,11 @@ pub fn booking_at(book: &[u32], place: usize) -> Booking
     let at = place * PLACE;
     Booking {
         number: book[at],
-        start: Minute(book[at + 1]),
-        duration: Duration(book[at + 2]),
-        bandwidth: Bandwidth(book[at + 3]),
-        count: book[at + 4],
-        links: path_at(book, at + 5),
+        start: Minute(book[at + START]),
+        duration: Duration(book[at + DURATION]),
+        bandwidth: Bandwidth(book[at + BANDWIDTH]),
+        count: book[at + COUNT],
+        links: path_at(book, at + PATH),
     }
 }
 
@@ -74,7 +89,7 @@ pub fn find(book: &[u32], count: usize, number: u32) -> Standing
 // The place at which a number that does not stand is put in: behind the lower ones.
 pub fn slot(book: &[u32], count: usize, number: u32) -> usize
     requires { ⌜ count * place-size ≤ length (now book) ⌝ }
-    ensures { λ r. ⌜ r ≡ slot-from number (now (book .entry)) 0 count ⌝ }
+    ensures { λ r. ⌜ r ≡ slot number (now (book .entry)) count ⌝ }
 {
     let mut place = 0;
     while place < count {
@@ -84,4 +99,126 @@ pub fn slot(book: &[u32], count: usize, number: u32) -> usize
         place += 1;
     }
     place
+}
+
+// Opens the first place of the part: what stands there and behind it moves up by a place, and the last place is dropped.
+fn open_place(part: &mut [u32])
+    requires { ⌜ place-size ≤ length (now part) ⌝ }
+    ensures { λ _. ⌜ now (part .exit) ≡ take place-size (now (part .entry)) ++ take (length (now (part .entry)) - place-size) (now (part .entry)) ⌝ }
+{
+    let mut i = part.len();
+    while PLACE < i {
+        i -= 1;
+        part[i] = part[i - PLACE];
+    }
+}
+
+// Writes the thirty-one path places at the front of the part.
+fn write_path(part: &mut [u32], links: [u32; PATH_LINKS])
+    requires { ⌜ most-hops ≤ length (now part) ⌝ }
+    ensures { λ _. ⌜ now (part .exit) ≡ links ++ drop most-hops (now (part .entry)) ⌝ }
+{
+    let mut i = 0;
+    while i < PATH_LINKS {
+        part[i] = links[i];
+        i += 1;
+    }
+}
+
+// Writes a booking over the first place of the part.
+fn write_place(part: &mut [u32], booking: Booking)
+    requires { ⌜ place-size ≤ length (now part) ⌝ }
+    ensures { λ _. ⌜ now (part .exit) ≡ figures booking ++ drop place-size (now (part .entry)) ⌝ }
+{
+    part[0] = booking.number;
+    part[START] = booking.start.0;
+    part[DURATION] = booking.duration.0;
+    part[BANDWIDTH] = booking.bandwidth.0;
+    part[COUNT] = booking.count;
+    let links = booking.links;
+    write_path(&mut part[PATH..], links);
+}
+
+// Puts a booking in at a place; those behind it move up.
+pub fn insert_booking(book: &mut [u32], place: usize, booking: Booking)
+    requires { ⌜ place * place-size + place-size ≤ length (now book) ⌝ }
+    ensures { λ _. ⌜ now (book .exit) ≡ with-booking place booking (now (book .entry)) ⌝ }
+{
+    let from = place * PLACE;
+    open_place(&mut book[from..]);
+    write_place(&mut book[from..], booking);
+}
+
+// Closes the first place of the part: what stands behind it moves down by a place, and the last place becomes zero.
+fn close_place(part: &mut [u32])
+    requires { ⌜ place-size ≤ length (now part) ⌝ }
+    ensures { λ _. ⌜ now (part .exit) ≡ drop place-size (now (part .entry)) ++ replicate place-size 0 ⌝ }
+{
+    let kept = part.len() - PLACE;
+    let mut i = 0;
+    while i < kept {
+        part[i] = part[i + PLACE];
+        i += 1;
+    }
+    clear_from(part, kept);
+}
+
+// Takes a place out; those behind it move down.
+pub fn remove_place(book: &mut [u32], place: usize)
+    requires { ⌜ place * place-size + place-size ≤ length (now book) ⌝ }
+    ensures { λ _. ⌜ now (book .exit) ≡ without-place place (now (book .entry)) ⌝ }
+{
+    let from = place * PLACE;
+    close_place(&mut book[from..]);
+}
+
+// The minute at which a booking releases its links.
+pub fn release(start: Minute, duration: Duration) -> u64
+    ensures { λ r. ⌜ r ≡ release (start .0) (duration .0) ⌝ }
+{
+    start.0 as u64 + duration.0 as u64
+}
+
+// Whether the booking at a place still stands at the clock: it releases its links later.
+fn stands(book: &[u32], place: usize, clock: Minute) -> bool
+    requires { ⌜ place * place-size + place-size ≤ length (now book) ⌝ }
+    ensures { λ r. ⌜ r ≡ stands-at (clock .0) (place-in (now (book .entry)) place) ⌝ }
+{
+    let at = place * PLACE;
+    let start = Minute(book[at + START]);
+    let duration = Duration(book[at + DURATION]);
+    (clock.0 as u64) < release(start, duration)
+}
+
+// Copies a place over an earlier one, or over itself.
+fn copy_place(book: &mut [u32], to: usize, from: usize)
+    requires { ⌜ (to ≤ from) × (from * place-size + place-size ≤ length (now book)) ⌝ }
+    ensures { λ _. ⌜ now (book .exit) ≡ take (to * place-size) (now (book .entry)) ++ (place-in (now (book .entry)) from ++ drop (to * place-size + place-size) (now (book .entry))) ⌝ }
+{
+    let source = from * PLACE;
+    let target = to * PLACE;
+    let mut i = 0;
+    while i < PLACE {
+        book[target + i] = book[source + i];
+        i += 1;
+    }
+}
+
+// Keeps, in order, those of the first `count` places that still stand at the clock, with zeros behind them; answers how many.
+pub fn drop_ended(book: &mut [u32], count: usize, clock: Minute) -> usize
+    requires { ⌜ (count ≤ most-bookings) × (length (now book) ≡ most-bookings * place-size) ⌝ }
+    ensures { λ r. ⌜ (r ≡ length (still-standing (clock .0) (now (book .entry)) count))
+        × (now (book .exit) ≡ only-places (still-standing (clock .0) (now (book .entry)) count)) ⌝ }
+{
+    let mut kept = 0;
+    let mut place = 0;
+    while place < count {
+        if stands(book, place, clock) {
+            copy_place(book, kept, place);
+            kept += 1;
+        }
+        place += 1;
+    }
+    clear_from(book, kept * PLACE);
+    kept
 }

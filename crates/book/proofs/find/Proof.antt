@@ -1,5 +1,5 @@
 -- `find` meets its contract: no place that was passed has the number.
-use mathlib.Core.Path.{_≡_, refl, sym, ap, _∙_}
+use mathlib.Core.Path.{_≡_, sym, ap, _∙_}
 use Prim.Native.Nat.{_-_, _≤_}
 use native.Mathlib.Omega.{arith}
 use lib.Dec.{eqb}
@@ -17,7 +17,11 @@ abbrev μ-loop : tie.MeasureT-loop
 μ-loop book count number place₀ place = count - place
 
 loop-holds : tie.Need-loop-holds Inv-loop μ-loop
-loop-holds c = (omega arith, ?a)
+unfolding find
+loop-holds c =
+    let a = c .args in
+    let e : a .count ≡ a .count - 0 = omega arith in
+    (omega arith, ap (λ n. standing (firstFrom 0 n (λ i. eqb (number-at (a .book .now) i) (a .number)))) e)
 
 mul-if1 : tie.Need-mul-if1 Inv-loop μ-loop
 mul-if1 c = omega arith
@@ -29,7 +33,10 @@ shared-slice-read-if1 : tie.Need-shared-slice-read-if1 Inv-loop μ-loop
 shared-slice-read-if1 c = omega arith
 
 returns : tie.Need-returns Inv-loop μ-loop
-returns c = ?b
+returns c =
+    let l = c .before .before .before .loop in
+    let a = c .before .before .before .before .args in
+    sym (l .inv .1 ∙ ap standing (found-here (λ i. eqb (number-at (a .book .now) i) (a .number)) (l .place) (a .count) (omega arith) (eq-eqb _ _ (c .if1 .taken))))
 
 add-place : tie.Need-add-place Inv-loop μ-loop
 add-place c = omega arith
@@ -38,10 +45,16 @@ loop-less : tie.Need-loop-less Inv-loop μ-loop
 loop-less c = omega arith
 
 loop-again : tie.Need-loop-again Inv-loop μ-loop
-loop-again c = (omega arith, ?c)
+loop-again c =
+    let l = c .before .before .before .loop in
+    let a = c .before .before .before .before .args in
+    (omega arith, l .inv .1 ∙ ap standing (found-after (λ i. eqb (number-at (a .book .now) i) (a .number)) (l .place) (a .count) (omega arith) (ne-eqb _ _ (c .if1 .left))))
 
 returns-2 : tie.Need-returns-2 Inv-loop μ-loop
-returns-2 c = ?d
+returns-2 c =
+    let l = c .before .loop in
+    let a = c .before .before .args in
+    sym (l .inv .1 ∙ ap standing (found-none (λ i. eqb (number-at (a .book .now) i) (a .number)) (l .place) (a .count) (omega arith)))
 
 pub find-spec : {M : Type 1} → statement M
 find-spec =

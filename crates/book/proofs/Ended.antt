@@ -1,0 +1,143 @@
+-- Dropping what has ended, place by place: the front holds those that stand of the places that are passed, and the places
+-- behind are as they came.
+use mathlib.Core.Path.{_≡_, refl, sym, ap, ap₂, subst₂, _∙_}
+use mathlib.Core.List.{List, [], _∷_, _++_, flatten, map-append, append-assoc, append-nil}
+use mathlib.Core.Bool.{Bool, true, false}
+use Prim.Native.Nat.{ℕ, zero, suc, _+_, _-_, _*_, _≤_}
+use native.Mathlib.Numerals.{add-one}
+use native.Mathlib.Omega.{arith}
+use lib.ListN.{length, take, drop, replicate, length-append, length-drop}
+use lib.Seq.{drop-drop, take-at, drop-at, length-take-le}
+use Rattle.units.specs.Limits.{most-bookings, place-size}
+use Rattle.units.specs.Lists.{count-from, cons-if, select}
+use Rattle.book.specs.Places.{place-in, places-in, stands-at, still-standing, only-places}
+
+count-snoc : (i n : ℕ) → count-from i (suc n) ≡ count-from i n ++ ((i + n) ∷ [])
+unfolding count-from
+count-snoc i zero = ap (λ k. k ∷ []) (omega arith)
+count-snoc i (suc n) = ap (λ (l : List ℕ). i ∷ l) (count-snoc (suc i) n ∙ ap (λ k. count-from (suc i) n ++ (k ∷ [])) (omega arith))
+
+module _ {A : Type 0} where
+  select-append : (test : A → Bool) (xs ys : List A) → select test (xs ++ ys) ≡ select test xs ++ select test ys
+  unfolding select
+  select-append test [] ys = refl
+  select-append test (x ∷ xs) ys = ap (cons-if (test x) x) (select-append test xs ys) ∙ by (test x)
+    where
+      by : (t : Bool) → cons-if t x (select test xs ++ select test ys) ≡ cons-if t x (select test xs) ++ select test ys
+      by true = refl
+      by false = refl
+
+  flatten-append : (xs ys : List (List A)) → flatten (xs ++ ys) ≡ flatten xs ++ flatten ys
+  unfolding flatten
+  flatten-append [] ys = refl
+  flatten-append (x ∷ xs) ys = rw (flatten-append xs ys, append-assoc)
+
+  flatten-one : (x : List A) → flatten (x ∷ []) ≡ x
+  unfolding flatten
+  flatten-one x = append-nil x
+
+module _ (clock : ℕ) (book : List ℕ) (n : ℕ) where
+  -- of one place more
+  standing-snoc : still-standing clock book (n + 1) ≡ still-standing clock book n ++ cons-if (stands-at clock (place-in book n)) (place-in book n) []
+  unfolding still-standing select
+  standing-snoc =
+      let z : 0 + n ≡ n = omega arith in
+      rw (add-one n, count-snoc 0 n, z, map-append) (select-append (stands-at clock) (places-in book n) (place-in book n ∷ []))
+
+  standing-more : stands-at clock (place-in book n) ≡ true → still-standing clock book (n + 1) ≡ still-standing clock book n ++ (place-in book n ∷ [])
+  standing-more e = standing-snoc ∙ ap (λ t. still-standing clock book n ++ cons-if t (place-in book n) []) e
+
+  standing-same : stands-at clock (place-in book n) ≡ false → still-standing clock book (n + 1) ≡ still-standing clock book n
+  standing-same e = standing-snoc ∙ ap (λ t. still-standing clock book n ++ cons-if t (place-in book n) []) e ∙ append-nil (still-standing clock book n)
+
+-- `kept` of the first `place` places that came stand at the clock and are at the front
+pub record Kept (clock : ℕ) (came book : List ℕ) (kept place : ℕ) : Type 0 where
+  pub few : kept ≤ place
+  pub count : kept ≡ length (still-standing clock came place)
+  pub front : take (kept * place-size) book ≡ flatten (still-standing clock came place)
+  pub behind : drop (place * place-size) book ≡ drop (place * place-size) came
+
+pub kept-none : (clock : ℕ) (came : List ℕ) → Kept clock came came 0 0
+unfolding still-standing select count-from flatten
+kept-none clock came = record { few = omega arith; count = refl; front = refl; behind = refl }
+
+pub kept-as : {clock : ℕ} {came book after : List ℕ} {kept count place : ℕ} → after ≡ book → count ≡ kept → Kept clock came book kept place → Kept clock came after count place
+kept-as {clock} {came} {place = place} e n k = subst₂ (λ (b : List ℕ) i. Kept clock came b i place) (sym e) (sym n) k
+
+-- the book with place `from` copied over place `to`
+abbrev pub place-copied : ℕ → ℕ → List ℕ → List ℕ
+place-copied to from book = take (to * place-size) book ++ (place-in book from ++ drop (to * place-size + place-size) book)
+
+module _ (clock : ℕ) (came book : List ℕ) (kept place : ℕ) (k : Kept clock came book kept place) where
+  next-behind : drop ((place + 1) * place-size) book ≡ drop ((place + 1) * place-size) came
+  next-behind =
+      let e : (place + 1) * place-size ≡ place * place-size + place-size = omega arith in
+      ap (λ n. drop n book) e ∙ sym (drop-drop place-size (place * place-size) book) ∙ ap (drop place-size) (k .behind) ∙ drop-drop place-size (place * place-size) came ∙ ap (λ n. drop n came) (sym e)
+
+  as-came : place-in book place ≡ place-in came place
+  as-came = ap (take place-size) (k .behind)
+
+  pub kept-same : stands-at clock (place-in book place) ≡ false → Kept clock came book kept (place + 1)
+  kept-same s =
+      let e : still-standing clock came (place + 1) ≡ still-standing clock came place = standing-same clock came place (ap (stands-at clock) (sym as-came) ∙ s) in
+      record {
+        few = omega (arith, k .few);
+        count = k .count ∙ ap length (sym e);
+        front = k .front ∙ ap flatten (sym e);
+        behind = next-behind;
+      }
+
+  pub kept-more : stands-at clock (place-in book place) ≡ true → place * place-size + place-size ≤ length book → Kept clock came (place-copied kept place book) (kept + 1) (place + 1)
+  kept-more s h =
+      record {
+        few = omega (arith, k .few);
+        count = omega (arith, k .count, ap length e, length-append (still-standing clock came place) (place-in came place ∷ []));
+        front =
+            ap₂ take next split
+            ∙ take-at front rest cut front-length
+            ∙ ap₂ _++_ (k .front) (as-came ∙ sym (flatten-one (place-in came place)))
+            ∙ sym (flatten-append (still-standing clock came place) (place-in came place ∷ []))
+            ∙ ap flatten (sym e);
+        behind =
+            ap₂ drop far split
+            ∙ sym (drop-drop ((place - kept) * place-size) cut (front ++ rest))
+            ∙ ap (drop ((place - kept) * place-size)) (drop-at front rest cut front-length)
+            ∙ drop-drop ((place - kept) * place-size) cut book
+            ∙ ap (λ n. drop n book) (sym far)
+            ∙ next-behind;
+      }
+    where
+      cut : ℕ
+      cut = kept * place-size + place-size
+
+      front : List ℕ
+      front = take (kept * place-size) book ++ place-in book place
+
+      rest : List ℕ
+      rest = drop cut book
+
+      split : place-copied kept place book ≡ front ++ rest
+      split = sym (append-assoc (take (kept * place-size) book) (place-in book place) rest)
+
+      e : still-standing clock came (place + 1) ≡ still-standing clock came place ++ (place-in came place ∷ [])
+      e = standing-more clock came place (ap (stands-at clock) (sym as-came) ∙ s)
+
+      next : (kept + 1) * place-size ≡ cut
+      next = omega arith
+
+      far : (place + 1) * place-size ≡ cut + (place - kept) * place-size
+      far = omega (arith, k .few)
+
+      front-length : length front ≡ cut
+      front-length =
+          let b : kept * place-size ≤ length book = omega (arith, k .few) in
+          let p : place-size ≤ length (drop (place * place-size) book) = rw length-drop (omega arith) in
+          rw length-append (omega (arith, length-take-le (kept * place-size) book b, length-take-le place-size (drop (place * place-size) book) p))
+
+  -- with zeros behind the front
+  pub kept-all : place ≤ most-bookings → length book ≡ most-bookings * place-size
+      → take (kept * place-size) book ++ replicate (length book - kept * place-size) 0 ≡ only-places (still-standing clock came place)
+  kept-all p l = ap₂ (λ (t : List ℕ) n. t ++ replicate n 0) (k .front) zeros
+    where
+      zeros : length book - kept * place-size ≡ most-bookings * place-size - length (flatten (still-standing clock came place))
+      zeros = omega (arith, length-take-le (kept * place-size) book (omega (arith, k .few)), ap length (k .front))

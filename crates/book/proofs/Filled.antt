@@ -1,0 +1,108 @@
+-- The book table that is filled with the figures of a list, a row of thirty-six each: what is read there is read off the list,
+-- and what is put in, taken out or dropped there is so in the list. The list may be of anything that has such a row.
+use mathlib.Core.Path.{_≡_, refl, sym, ap, subst, _∙_}
+use mathlib.Core.List.{List, [], _∷_, _++_, map, flatten}
+use mathlib.Core.Bool.{Bool, true, false}
+use Prim.Native.Nat.{ℕ, suc, _+_, _-_, _*_, _≤_}
+use native.Mathlib.Omega.{arith}
+use lib.ListN.{length, getD, take, drop, length-append, length-map, List·getD-append}
+use lib.Seq.{take-at, drop-at, getD-append-add}
+use Rattle.units.specs.Limits.{most-bookings, place-size}
+use Rattle.units.specs.Lists.{cons-if, select, put-in, All}
+use Rattle.units.proofs.Padded.{Rows, length-padded, length-rows, rows-insert, rows-remove}
+use Rattle.book.specs.declared.Booking.{Booking}
+use Rattle.book.specs.Places.{number-at, numbers-in, figures, find, standing, slot, slot-among, with-booking, without-place, place-in, places-in, stands-at, still-standing, only-places}
+use Rattle.book.proofs.Reading.{Reads, read-filled}
+use Rattle.book.proofs.Found.{first-in, first-read, Place, searched, place-of}
+
+select-map : {A B : Type 0} (test : B → Bool) (f : A → B) (xs : List A) → select test (map f xs) ≡ map f (select (λ x. test (f x)) xs)
+unfolding select
+select-map test f [] = refl
+select-map test f (x ∷ xs) = ap (cons-if (test (f x)) (f x)) (select-map test f xs) ∙ by (test (f x))
+  where
+    by : (t : Bool) → cons-if t (f x) (map f (select (λ y. test (f y)) xs)) ≡ map f (cons-if t x (select (λ y. test (f y)) xs))
+    by true = refl
+    by false = refl
+
+module _ {A : Type 0} (P : A → Type 0) where
+  all-without : (xs : List A) (x : A) (ys : List A) → All P (xs ++ (x ∷ ys)) → All P (xs ++ ys)
+  all-without [] x ys a = a .1
+  all-without (y ∷ xs) x ys a = (a .0, all-without xs x ys (a .1))
+
+  all-between : (xs : List A) (x : A) (ys : List A) → All P (xs ++ (x ∷ ys)) → P x
+  all-between [] x ys a = a .0
+  all-between (y ∷ xs) x ys a = all-between xs x ys (a .1)
+
+module _ {A : Type 0} (f : A → List ℕ) where
+  -- the number in a row of figures
+  abbrev pub number-of : A → ℕ
+  number-of x = getD (f x) 0 0
+
+  -- the book table of these
+  abbrev pub filled : List A → List ℕ
+  filled xs = only-places (map f xs)
+
+  reads-place : (xs : List A) → Rows f place-size xs → All (Reads f place-in f) xs
+  reads-place [] r = tt
+  reads-place (x ∷ xs) r = ((λ before behind i l. ap (take place-size) (drop-at before (f x ++ behind) (i * place-size) l) ∙ take-at (f x) behind place-size (r .0)), reads-place xs (r .1))
+
+  reads-number : (xs : List A) → Rows f place-size xs → All (Reads f number-at number-of) xs
+  reads-number [] r = tt
+  reads-number (x ∷ xs) r = (by, reads-number xs (r .1))
+    where
+      by : Reads f number-at number-of x
+      by before behind i l =
+          let e : i * place-size ≡ length before + 0 = omega arith in
+          ap (λ n. getD (before ++ (f x ++ behind)) n 0) e ∙ getD-append-add before (f x ++ behind) 0 0 ∙ List·getD-append (f x) behind 0 0 (omega (arith, r .0))
+
+  module _ (xs : List A) (r : Rows f place-size xs) where
+    pub length-filled : length xs ≤ most-bookings → length (filled xs) ≡ most-bookings * place-size
+    length-filled h = length-padded (most-bookings * place-size) (flatten (map f xs)) (omega (arith, length-rows f place-size xs r))
+
+    pub places-filled : places-in (filled xs) (length xs) ≡ map f xs
+    places-filled = read-filled f place-in f xs r (reads-place xs r)
+
+    pub numbers-filled : numbers-in (filled xs) (length xs) ≡ map number-of xs
+    numbers-filled = read-filled f number-at number-of xs r (reads-number xs r)
+
+    -- those that still stand
+    pub standing-filled : (clock : ℕ) → still-standing clock (filled xs) (length xs) ≡ map f (select (λ x. stands-at clock (f x)) xs)
+    unfolding still-standing
+    standing-filled clock = ap (select (stands-at clock)) places-filled ∙ select-map (stands-at clock) f xs
+
+    -- what dropping the ended leaves, and how many
+    pub drop-filled : (clock : ℕ) → only-places (still-standing clock (filled xs) (length xs)) ≡ filled (select (λ x. stands-at clock (f x)) xs)
+    drop-filled clock = ap only-places (standing-filled clock)
+
+    pub count-filled : (clock : ℕ) → length (still-standing clock (filled xs) (length xs)) ≡ length (select (λ x. stands-at clock (f x)) xs)
+    count-filled clock = ap length (standing-filled clock) ∙ length-map (select (λ x. stands-at clock (f x)) xs) f
+
+    pub slot-filled : (number : ℕ) → slot number (filled xs) (length xs) ≡ slot-among number (map number-of xs)
+    slot-filled number = ap (slot-among number) numbers-filled
+
+    -- where a number is found it stands
+    pub find-filled : (number : ℕ) → Place number-of number xs (find number (filled xs) (length xs))
+    unfolding find
+    find-filled number =
+        subst (λ s. Place number-of number xs (standing s))
+        (sym (first-read number (number-at (filled xs)) 0 (length xs) ∙ ap (first-in number 0) numbers-filled))
+        (place-of number-of number (searched number-of number 0 xs))
+
+  -- with the booking of one row more, and without a row
+  module _ (xs : List A) (x : A) (ys : List A) (r : Rows f place-size (xs ++ (x ∷ ys))) (few : length xs + suc (length ys) ≤ most-bookings) where
+    whole : length (filled (xs ++ ys)) ≡ most-bookings * place-size
+    whole = length-filled (xs ++ ys) (all-without (λ y. length (f y) ≡ place-size) xs x ys r) (omega (arith, length-append xs ys))
+
+    room : length (filled (xs ++ ys)) - (length xs * place-size + length (f x)) ≡ most-bookings * place-size - (length xs * place-size + place-size)
+    room = omega (arith, whole, all-between (λ y. length (f y) ≡ place-size) xs x ys r)
+
+    pub insert-filled : (b : Booking) → figures b ≡ f x → with-booking (length xs) b (filled (xs ++ ys)) ≡ filled (xs ++ (x ∷ ys))
+    unfolding with-booking
+    insert-filled b e =
+        ap (λ (row : List ℕ). put-in (length xs * place-size) row (filled (xs ++ ys))) e
+        ∙ ap (λ n. take (length xs * place-size) (filled (xs ++ ys)) ++ (f x ++ take n (drop (length xs * place-size) (filled (xs ++ ys))))) room
+        ∙ sym (rows-insert f place-size most-bookings xs x ys r few)
+
+    pub remove-filled : without-place (length xs) (filled (xs ++ (x ∷ ys))) ≡ filled (xs ++ ys)
+    unfolding without-place
+    remove-filled = sym (rows-remove f place-size most-bookings xs x ys r few)

@@ -1,0 +1,57 @@
+-- `stands` meets its contract: the two figures that it reads are those of the place.
+use mathlib.Core.Path.{ap, ap₂, _∙_}
+use native.Mathlib.Omega.{arith}
+use borrow.Author.Needs.{needs}
+use lib.Dec.{ltb}
+use Rattle.book.specs.Places.{release}
+use Rattle.book.proofs.Reading.{figure-in}
+use Rattle.book.proofs.stands.Statement.{statement}
+use Rattle.book.proofs.stands.Tie as tie
+
+mul-at : tie.Need-mul-at
+mul-at c = search needs
+
+add-t7 : tie.Need-add-t7
+add-t7 c = search needs
+
+mul-t8 : tie.Need-mul-t8
+mul-t8 c = search needs
+
+shared-slice-read-t10 : tie.Need-shared-slice-read-t10
+shared-slice-read-t10 c = search needs
+
+add-t7-2 : tie.Need-add-t7-2
+add-t7-2 c = search needs
+
+mul-t8-2 : tie.Need-mul-t8-2
+mul-t8-2 c = search needs
+
+shared-slice-read-t10-2 : tie.Need-shared-slice-read-t10-2
+shared-slice-read-t10-2 c = search needs
+
+cast-result : tie.Need-cast-result
+cast-result c = search needs
+
+release-requires : tie.Need-release-requires
+release-requires c κs = search needs
+
+returns : tie.Need-returns
+returns c =
+    let a = c .before .before .before .before .before .args in
+    let figure = figure-in (a .book .now) (a .place) in
+    ap (ltb (a .clock .0)) (c .release .ensures ∙ ap₂ release (figure 1 (omega arith)) (figure 2 (omega arith)))
+
+pub stands-spec : {M : Type 1} → statement M
+stands-spec =
+    tie.close
+    (tie.spec
+    mul-at
+    add-t7
+    mul-t8
+    shared-slice-read-t10
+    add-t7-2
+    mul-t8-2
+    shared-slice-read-t10-2
+    cast-result
+    release-requires
+    returns)

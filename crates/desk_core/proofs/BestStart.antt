@@ -1,0 +1,177 @@
+-- On fine tables the chooser may be asked, and what it answers is the plain book's best start.
+use mathlib.Core.Path.{_≡_, refl, sym, _∙_, ap, ap₂}
+use mathlib.Core.List.{List}
+use mathlib.Core.Bool.{Bool, true, false, and-eq-true-iff}
+use borrow.Author.Tests.{not-true, ltb-true}
+use Prim.Native.Nat.{ℕ, _-_, _≤_, _<_, max}
+use native.Mathlib.Omega.{arith}
+use lib.ListN.{length, take, replicate}
+use lib.Seq.{take-append-seam}
+use Rattle.units.specs.declared.Link.{Link}
+use Rattle.units.specs.declared.Minute.{Minute}
+use Rattle.units.specs.declared.Request.{Request}
+use Rattle.units.specs.Limits.{most-links, most-hops, most-bookings, last-number}
+use Rattle.units.specs.Lists.{Within}
+use Rattle.units.proofs.Tests.{in-range}
+use Rattle.free_table.specs.Figures.{kept}
+use Rattle.free_table.specs.Taking as table-sizes
+use Rattle.free_table.proofs.Figures.{kept-figure}
+use Rattle.path_search.specs.declared.Path.{Path}
+use Rattle.path_search.specs.Answer.{InRange}
+use Rattle.path_search.specs.Answer as search
+use Rattle.choice.specs.declared.StartChoice.the-variants.{Start, Refused}
+use Rattle.choice.specs.declared.Chosen.{Chosen}
+use Rattle.choice.specs.Choice.{Grant, Choice, granted, no-start, choose}
+use Rattle.choice.specs.Answer.{Askable}
+use Rattle.choice.specs.Answer as answers
+use Rattle.choice.proofs.Figures.{choose-agree, carries-shown}
+use Rattle.desk_core.specs.declared.LinkTable.{LinkTable}
+use Rattle.desk_core.specs.Plain.{Booking, Plain, terms, graph, free, carries, low}
+use Rattle.desk_core.specs.Calls.{Ask, starts, refuse, best, stands, number-ok, request-ok, own-checks}
+use Rattle.desk_core.specs.Calls.{chosen as desk-chosen}
+use Rattle.desk_core.specs.Tables.{Tables, held, tables, event-table, free-table}
+use Rattle.desk_core.specs.LinkTables.{links-of, ends-of}
+use Rattle.desk_core.specs.Sound.{Obeys}
+use Rattle.desk_core.specs.Updating.{Fine, booked, Grantable}
+use Rattle.desk_core.proofs.Checks.{Passed}
+use Rattle.desk_core.proofs.Choices.{GoodGrant, good-best}
+use Rattle.desk_core.proofs.Step.{obeys-booked}
+use Rattle.desk_core.proofs.Uses.{all-times, free-changes}
+use Rattle.desk_core.proofs.Tests.{Sized, sized-tells, RequestRight, link-right}
+use Rattle.desk_core.proofs.Obeys.{sound-obeys, sound-tables}
+use Rattle.desk_core.proofs.LinkColumns.{links-count, from-column, to-column}
+
+module _ (links : LinkTable) (t : Tables) (f : Fine (links-of links) t) where
+  sizes : Sized (links-of links) t
+  sizes = sized-tells (links-of links) t .0 (f .is-sized)
+
+  obeys : Obeys (links-of links) (held t)
+  obeys = sound-obeys (links-of links) t (f .is-sound)
+
+  pub few-links : links .count ≤ most-links
+  few-links = rw (← (links-count links)) (sizes .links-right .1)
+
+  events-are : t .events ≡ event-table (held t)
+  unfolding tables
+  events-are = ap (λ x. x .events) (sound-tables (links-of links) t (f .is-sound))
+
+  free-are : t .free ≡ free-table (links-of links) (held t)
+  unfolding tables
+  free-are = ap (λ x. x .free) (sound-tables (links-of links) t (f .is-sound))
+
+  ends-in-range : InRange (ends-of links)
+  ends-in-range = record {
+    few = few-links;
+    from-node = λ l h. rw (← (from-column links l h)) (link-right (links-of links) (obeys .links-right) l (rw (links-count links) h) .from-right);
+    to-node = λ l h. rw (← (to-column links l h)) (link-right (links-of links) (obeys .links-right) l (rw (links-count links) h) .to-right);
+  }
+
+  module _ (r : Request) (q : RequestRight r) where
+    pub best-asks : Askable (ends-of links) (t .events) (t .free) (r .duration .0) (max (r .earliest .0) (t .head .clock .0)) (r .latest .0)
+    best-asks = record {
+      in-range = ends-in-range;
+      sized = record { events-sized = sizes .events-right; free-sized = sizes .free-right };
+      clock = t .head .clock .0;
+      times = all-times (held t);
+      are-events = events-are;
+      not-past = omega arith;
+      lasts = q .duration-right;
+      in-time = q .latest-right;
+    }
+
+    -- the choice by the tables, as the chooser promises it
+    abbrev pub by-tables : Choice
+    by-tables = choose (search.graph (ends-of links)) (answers.carries (kept (t .events) (t .free)) (r .bandwidth .0) (r .duration .0)) (r .from) (r .to) (max (r .earliest .0) (t .head .clock .0)) (r .latest .0)
+
+    -- the choice by the plain book
+    abbrev pub by-book : Choice
+    by-book = choose (graph (links-of links)) (carries (links-of links) (held t) r) (r .from) (r .to) (low (held t) r) (r .latest .0)
+
+    pub same-choice : by-tables ≡ by-book
+    same-choice =
+        choose-agree (search.graph (ends-of links)) (graph (links-of links)) (answers.carries (kept (t .events) (t .free)) (r .bandwidth .0) (r .duration .0)) (carries (links-of links) (held t) r) (r .from) (r .to) (low (held t) r) (r .latest .0)
+        (λ m a b. record {
+          count = sym (links-count links);
+          from = λ l h. sym (from-column links l h);
+          to = λ l h. sym (to-column links l h);
+          usable = λ l h. usable-same m l (omega arith) (rw (links-count links) h);
+        })
+      where
+        usable-same : (m l : ℕ) → t .head .clock .0 ≤ m → l < length (links-of links) → answers.carries (kept (t .events) (t .free)) (r .bandwidth .0) (r .duration .0) m l ≡ carries (links-of links) (held t) r m l
+        usable-same m l a h =
+            ap₂ (λ es fr. answers.carries (kept es fr) (r .bandwidth .0) (r .duration .0) m l) events-are free-are
+            ∙ carries-shown (length (links-of links)) (free (links-of links) (held t)) (sizes .links-right .1) (t .head .clock .0) (all-times (held t)) (λ k j. free-changes (links-of links) (held t) k) (r .bandwidth .0) (r .duration .0) m l a h
+
+    -- a start that the chooser answers is the plain book's grant, with its path
+    pub record Started (start : Minute) (path : Path) : Type 0 where
+      pub grant : Grant
+      pub is-best : by-book ≡ granted grant
+      pub start-is : start ≡ record { 0 = grant .start }
+      pub path-is : path ≡ search.path-of (grant .path)
+
+    pub chosen-start : (a : Chosen) → a ≡ answers.chosen by-tables → (start : Minute) → a .choice ≡ Start start → Started start (a .path)
+    chosen-start a e start s = by by-tables refl e
+      where
+        by : (c : Choice) → by-tables ≡ c → a ≡ answers.chosen c → Started start (a .path)
+        by (granted g) q e =
+            let z : Start (record { 0 = g .start }) ≡ Start start = sym (ap (λ x. x .choice) e) ∙ s in
+            record { grant = g; is-best = sym same-choice ∙ q; start-is = cc; path-is = ap (λ x. x .path) e }
+        by no-start q e = let z : Refused 8 ≡ Start start = sym (ap (λ x. x .choice) e) ∙ s in absurd (let y : _≡_ {A = ℕ} 0 1 = cc in omega arith)
+
+    pub chosen-none : (a : Chosen) → a ≡ answers.chosen by-tables → (k : ℕ) → a .choice ≡ Refused k → by-book ≡ no-start
+    chosen-none a e k s = by by-tables refl e
+      where
+        by : (c : Choice) → by-tables ≡ c → a ≡ answers.chosen c → by-book ≡ no-start
+        by (granted g) q e = let z : Start (record { 0 = g .start }) ≡ Refused k = sym (ap (λ x. x .choice) e) ∙ s in absurd (let y : _≡_ {A = ℕ} 0 1 = cc in omega arith)
+        by no-start q e = sym same-choice ∙ q
+
+    -- what the plain book answers then
+    pub best-starts : (g : Grant) → by-book ≡ granted g → best (links-of links) (held t) r ≡ starts g
+    unfolding best
+    best-starts g e = ap desk-chosen e
+
+    pub best-none : by-book ≡ no-start → best (links-of links) (held t) r ≡ refuse 8
+    unfolding best
+    best-none e = ap desk-chosen e
+
+    -- the booking that is entered is the one of the grant
+    module _ (number : ℕ) (start : Minute) (path : Path) (s : Started start path) where
+      abbrev pub booking : Booking
+      booking = record { number = number; terms = terms r; grant = s .grant }
+
+      good : GoodGrant (links-of links) (held t) r (obeys .links-right) q (s .grant)
+      good = good-best (links-of links) (held t) r (obeys .links-right) q (s .grant) (s .is-best)
+
+      short : length (s .grant .path) ≤ most-hops
+      short = good .is-path .length-right .1
+
+      path-kept : take (path .count) (path .links) ≡ s .grant .path
+      path-kept = ap (λ x. take (x .count) (x .links)) (s .path-is) ∙ take-append-seam (s .grant .path) (replicate (most-hops - length (s .grant .path)) 0)
+
+      pub booked-is : booked number r start path ≡ booking
+      booked-is = λ i. record { number = number; terms = terms r; grant = record { start = s .start-is i .0; path = path-kept i } }
+
+      pub grantable : Passed (own-checks (links-of links) (held t) (Ask.book number r)) → Grantable (links-of links) (held t) number r start path
+      grantable checks = record {
+        booking-right = rw booked-is (obeys-booked (links-of links) (held t) obeys number r q in-range-number new room (s .grant) good .bookings-right .0);
+        path-is = s .path-is ∙ ap search.path-of (sym path-kept);
+        room = room;
+      }
+        where
+          in-range-number : Within 1 last-number number
+          in-range-number = in-range 1 last-number number .0 (and-eq-true-iff (number-ok number) (request-ok r) .0 (checks .0) .0)
+
+          new : stands number (held t .bookings) ≡ false
+          new = not-true (stands number (held t .bookings)) (checks .1 .1 .0)
+
+          room : length (held t .bookings) < most-bookings
+          room = ltb-true (length (held t .bookings)) most-bookings (checks .1 .1 .1 .0)
+
+  -- a link of the list has a figure in every row, and it is what the plain book leaves free
+  pub figure-asks : (l : ℕ) → l < links .count → table-sizes.Sized (t .events) (t .free) l
+  figure-asks l h = record { events-sized = sizes .events-right; free-sized = sizes .free-right; column = let f = few-links in omega arith }
+
+  pub figure-is : (l m : ℕ) → l < links .count → t .head .clock .0 ≤ m → kept (t .events) (t .free) l m ≡ free (links-of links) (held t) l m
+  figure-is l m h k =
+      rw (events-are, free-are)
+      (kept-figure (length (links-of links)) (free (links-of links) (held t)) (sizes .links-right .1) (t .head .clock .0) (all-times (held t)) l m (free-changes (links-of links) (held t) l) (rw (links-count links) h) k)

@@ -1,0 +1,75 @@
+-- The checks of the tables by the number that the code computes: what it says of the outcome, and of the tables.
+use mathlib.Core.Path.{_≡_, refl, sym, _∙_, ap}
+use mathlib.Core.List.{List}
+use mathlib.Core.Bool.{Bool, true, false}
+use Prim.Native.Nat.{ℕ, _*_, _≤_}
+use native.Mathlib.Nat.{mul-le-mul-right}
+use native.Mathlib.Omega.{arith}
+use lib.ListN.{length}
+use Rattle.units.specs.declared.Link.{Link}
+use Rattle.units.specs.declared.Head.{Head}
+use Rattle.units.specs.Limits.{most-links, most-bookings, most-events, place-size}
+use Rattle.units.specs.Lists.{within}
+use Rattle.units.proofs.Tests.{_&_, in-range, equals}
+use Rattle.desk_core.specs.declared.LinkTable.{LinkTable}
+use Rattle.desk_core.specs.Calls.{Ask, ask, checked}
+use Rattle.desk_core.specs.Tables.{Tables, sizes-ok, sized, sound, tables-refusal, outcome}
+use Rattle.desk_core.specs.LinkTables.{links-of}
+use Rattle.desk_core.specs.Lent.{lent}
+use Rattle.desk_core.specs.Updating.{Fine}
+use Rattle.desk_core.proofs.Tests.{sized-tells}
+use Rattle.desk_core.proofs.Obeys.{sound-facts}
+use Rattle.desk_core.proofs.LinkColumns.{links-count}
+use Rattle.desk_core.proofs.Exits.{refused-with, unsized, unsound}
+
+module _ (links : LinkTable) (head : Head) (events free places : List ℕ) where
+  -- sizes by the count of the columns
+  pub sizes-same : sized (links-of links) (lent head events free places) ≡ sizes-ok (links .count) (length events) (length free) (length places)
+  sizes-same = ap (λ n. sizes-ok n (length events) (length free) (length places)) (links-count links)
+
+-- sizes that are right: not too many links
+pub few-links : (links events free places : ℕ) → sizes-ok links events free places ≡ true → links ≤ most-links
+few-links links events free places e =
+    (in-range 1 most-links links & equals events most-events & equals free (most-events * most-links) & equals places (most-bookings * place-size)) .0 e .0 .0 .0 .1
+
+module _ (links : List Link) (t : Tables) where
+  pub says-1 : sized links t ≡ false → tables-refusal links t ≡ 1
+  unfolding checked
+  says-1 e = rw e
+
+  pub says-3 : sized links t ≡ true → sound links t ≡ false → tables-refusal links t ≡ 3
+  unfolding checked
+  says-3 s e = rw (s, e)
+
+  pub says-0 : sized links t ≡ true → sound links t ≡ true → tables-refusal links t ≡ 0
+  unfolding checked
+  says-0 s e = rw (s, e)
+
+  -- passed: the tables are fine
+  pub fine : tables-refusal links t ≡ 0 → Fine links t
+  fine q = by (sized links t) (sound links t) refl refl
+    where
+      by : (x y : Bool) → sized links t ≡ x → sound links t ≡ y → Fine links t
+      by true true s e = record { is-sized = s; is-sound = e }
+      by true false s e = absurd (let z : _≡_ {A = ℕ} 3 0 = sym (says-3 s e) ∙ q in omega arith)
+      by false y s e = absurd (let z : _≡_ {A = ℕ} 1 0 = sym (says-1 s) ∙ q in omega arith)
+
+  -- not passed: a refusal with that number
+  pub tables-refused : (a : Ask) (k : ℕ) → k ≡ tables-refusal links t → (k ≡ 0 → ⊥) → outcome links t (ask a) ≡ refused-with k t
+  tables-refused a k q ne = by (sized links t) (sound links t) refl refl
+    where
+      by : (x y : Bool) → sized links t ≡ x → sound links t ≡ y → outcome links t (ask a) ≡ refused-with k t
+      by true true s e = absurd (ne (q ∙ says-0 s e))
+      by true false s e = unsound links t a s e ∙ ap (λ j. refused-with j t) (sym (q ∙ says-3 s e))
+      by false y s e = unsized links t (ask a) s ∙ ap (λ j. refused-with j t) (sym (q ∙ says-1 s))
+
+-- a figure in range is not below the range
+pub range-low : (low high x : ℕ) → within low high x ≡ true → low ≤ x
+range-low low high x e = in-range low high x .0 e .0
+
+-- the places that the head counts are in the book
+pub places-fit : (links : LinkTable) (t : Tables) → Fine (links-of links) t → t .head .bookings * place-size ≤ length (t .book)
+places-fit links t f =
+    let s = sized-tells (links-of links) t .0 (f .is-sized) in
+    let o = sound-facts (links-of links) t (f .is-sound) in
+    rw (s .book-right) (mul-le-mul-right place-size (o .count-right))

@@ -1,0 +1,20 @@
+-- `best_start` meets its contract: the chooser is asked at low.
+use mathlib.Core.Path.{_≡_, refl, sym, ap, _∙_}
+use native.Mathlib.Omega.{arith}
+use borrow.Author.Needs.{needs}
+use borrow.Author.Tests.{not-true, not-false}
+use denote.Ref.{now}
+use Rattle.desk_core.proofs.best_start.Statement.{statement}
+use Rattle.desk_core.proofs.best_start.Tie as tie
+
+low-minute-requires : tie.Need-low-minute-requires
+low-minute-requires c κs = search needs
+
+choose-requires : tie.Need-choose-requires
+choose-requires c κs = rw (c .low-minute .ensures) (c .before .before .before .before .before .pre)
+
+returns : tie.Need-returns
+returns c = c .choose .ensures ∙ rw (c .before .low-minute .ensures)
+
+pub best-start-spec : {M : Type 1} → statement M
+best-start-spec = tie.close (tie.spec low-minute-requires choose-requires returns)

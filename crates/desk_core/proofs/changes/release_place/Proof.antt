@@ -1,0 +1,85 @@
+-- `release_place` meets its contract: the book without the place is that of the others, and the rest is written anew from it.
+use mathlib.Core.Path.{_≡_, _∙_}
+use native.Mathlib.Omega.{arith}
+use borrow.Author.Needs.{needs}
+use Rattle.desk_core.specs.Plain.{Plain}
+use Rattle.desk_core.specs.Calls.{take-out}
+use Rattle.desk_core.specs.Tables.{Tables, held, book-table}
+use Rattle.desk_core.specs.Sound.{Obeys}
+use Rattle.desk_core.specs.LinkTables.{links-of}
+use Rattle.desk_core.specs.Lent.{lent}
+use Rattle.desk_core.proofs.Step.{obeys-take-out}
+use Rattle.desk_core.proofs.InOrder.{sizes, book-obeys, few-bookings, Released, released}
+use Rattle.desk_core.proofs.Written.{anew-asks, anew-tables}
+use Rattle.desk_core.proofs.changes.release_place.Statement.{statement}
+use Rattle.desk_core.proofs.changes.release_place.Tie as tie
+
+-- the tables as they are lent, and the plain book after the call
+abbrev came : tie.Start → Tables
+came s = lent (s .args .head) (s .args .events .now) (s .args .free .now) (s .args .book .now)
+
+abbrev after : tie.Start → Plain
+after s = take-out (s .args .number) (held (came s))
+
+obeyed : (s : tie.Start) → Obeys (links-of (s .args .links)) (after s)
+obeyed s = obeys-take-out (links-of (s .args .links)) (held (came s)) (s .args .number) (book-obeys (s .pre .0))
+
+gone : (s : tie.Start) → Released (s .pre .0) (s .args .number) (s .args .place)
+gone s = released (s .pre .0) (s .args .number) (s .args .place) (s .pre .1)
+
+cast-count : tie.Need-cast-count
+cast-count c = search needs
+
+remove-place-requires : tie.Need-remove-place-requires
+remove-place-requires c κs =
+    let s = c .before .before .before .before .before .before in
+    omega (arith, gone s .inside, few-bookings (s .pre .0), sizes (s .pre .0) .book-right)
+
+-- the function's entry, from the book without the place
+abbrev entry : tie.After-remove-place → tie.Start
+entry c = c .before .before .before .before .before .before .before
+
+book-is : (c : tie.After-remove-place) → c .remove-place .last .0 ≡ book-table (after (entry c))
+book-is c = c .remove-place .ensures ∙ gone (entry c) .book-is
+
+sub-rebuild : tie.Need-sub-rebuild
+sub-rebuild c = omega (arith, gone (entry (c .before .before .before)) .inside)
+
+rebuild-requires : tie.Need-rebuild-requires
+rebuild-requires c κs =
+    let removed = c .before .before .before .before .before in
+    let s = entry removed in
+    anew-asks (s .args .links) (s .pre .0) (obeyed s) (book-is removed) (gone s .count-is)
+
+sub-t21 : tie.Need-sub-t21
+sub-t21 c = omega (arith, gone (entry (c .before .before .before .before .before .before .before .before .before .before .before)) .inside)
+
+same-length : tie.Need-same-length
+same-length c = search needs
+
+same-length-2 : tie.Need-same-length-2
+same-length-2 c = search needs
+
+same-length-3 : tie.Need-same-length-3
+same-length-3 c = search needs
+
+returns : tie.Need-returns
+returns c =
+    let rebuilt = c .before .before .before .before .before in
+    let removed = rebuilt .before .before .before .before .before .before in
+    let s = entry removed in
+    anew-tables (s .args .links) (s .pre .0) (obeyed s) (book-is removed) (gone s .count-is) (rebuilt .rebuild .ensures .0) (rebuilt .rebuild .ensures .1)
+
+pub release-place-spec : {M : Type 1} → statement M
+release-place-spec =
+    tie.close
+    (tie.spec
+    cast-count
+    remove-place-requires
+    sub-rebuild
+    rebuild-requires
+    sub-t21
+    same-length
+    same-length-2
+    same-length-3
+    returns)

@@ -1,0 +1,43 @@
+-- What the contracts of the six calls say: the answer and each table as it is handed back, from the one outcome.
+use mathlib.Core.List.{List}
+use Prim.Native.Nat.{ℕ}
+use Rattle.units.specs.declared.Link.{Link}
+use Rattle.units.specs.declared.Head.{Head}
+use Rattle.choice.specs.declared.ChoiceRecord.{ChoiceRecord}
+use Rattle.desk_core.specs.declared.Shown.{Shown}
+use Rattle.desk_core.specs.Calls.{Call, Answer, values}
+use Rattle.desk_core.specs.Tables.{Tables, outcome}
+
+-- the tables as they are lent
+abbrev pub lent : Head → List ℕ → List ℕ → List ℕ → Tables
+lent head events free places = record { head = head; events = events; free = free; book = places }
+
+-- an answer's number and values, for a booking or an offer, and for a showing
+abbrev pub granted : Answer → ChoiceRecord
+granted a = record { refusal = values a .number; start = record { 0 = values a .start }; path = record { count = values a .count; links = values a .path } }
+
+abbrev pub shown : Answer → Shown
+shown a = record { refusal = values a .number; free = record { 0 = values a .figure } }
+
+module _ (links : List Link) (t : Tables) (c : Call) where
+  unfoldable pub granted-answer : ChoiceRecord
+  granted-answer = granted (outcome links t c .answer)
+
+  unfoldable pub shown-answer : Shown
+  shown-answer = shown (outcome links t c .answer)
+
+  -- the refusal number of a call that hands nothing else back; 0 if it is accepted
+  unfoldable pub refusal-answer : ℕ
+  refusal-answer = values (outcome links t c .answer) .number
+
+  unfoldable pub head-after : Head
+  head-after = outcome links t c .tables .head
+
+  unfoldable pub events-after : List ℕ
+  events-after = outcome links t c .tables .events
+
+  unfoldable pub free-after : List ℕ
+  free-after = outcome links t c .tables .free
+
+  unfoldable pub book-after : List ℕ
+  book-after = outcome links t c .tables .book

@@ -1,0 +1,180 @@
+// The checks of the calls, in document 01's order: each function answers the number of the first check that a call does
+// not pass, or 0. Nothing here writes a table.
+use crate::LinkTable;
+use crate::soundness::sound;
+use book::Standing;
+use book::find;
+use units::BOOK_FIGURES;
+use units::BOOKINGS;
+use units::EVENTS;
+use units::FREE_FIGURES;
+use units::Head;
+use units::LAST_NODE;
+use units::LINKS;
+use units::MAX_BANDWIDTH;
+use units::MAX_DURATION;
+use units::MAX_MINUTE;
+use units::MAX_NUMBER;
+use units::Minute;
+use units::Request;
+ghost use mathlib.Core.Path.{_≡_};
+ghost use mathlib.Core.List.{[]};
+ghost use Prim.Native.Nat.{_*_, _≤_, max};
+ghost use lib.ListN.{length};
+ghost use Rattle.units.specs.Limits.{place-size};
+ghost use Rattle.units.specs.Lists.{within};
+ghost use Rattle.desk_core.specs.Calls.{Ask, ends-ok, request-ok, first-refusal, own-checks};
+ghost use Rattle.desk_core.specs.Tables.{plain-in, sizes-ok, tables-refusal};
+ghost use Rattle.desk_core.specs.LinkTables.{links-of};
+ghost use Rattle.desk_core.specs.Lent.{lent};
+
+// Refusal numbers.
+const BAD_SIZE: u32 = 1;
+
+const UNSOUND: u32 = 3;
+
+const BAD_FIELD: u32 = 4;
+
+const TOO_LATE: u32 = 5;
+
+const NUMBER_STANDS: u32 = 6;
+
+const BOOK_FULL: u32 = 7;
+
+// Whether there are 1 to 64 links and the lent tables have the sizes that document 01 states.
+pub(crate) fn sized(links: usize, events: usize, free: usize, book: usize) -> bool
+    ensures { λ r. ⌜ r ≡ sizes-ok links events free book ⌝ }
+{
+    if links < 1 {
+        return false;
+    }
+    if LINKS < links {
+        return false;
+    }
+    if events != EVENTS {
+        return false;
+    }
+    if free != FREE_FIGURES {
+        return false;
+    }
+    if book != BOOK_FIGURES {
+        return false;
+    }
+    true
+}
+
+// Whether a figure is in range, both ends counted.
+pub(crate) fn in_range(low: u32, high: u32, figure: u32) -> bool
+    ensures { λ r. ⌜ r ≡ within low high figure ⌝ }
+{
+    if figure < low {
+        return false;
+    }
+    if high < figure {
+        return false;
+    }
+    true
+}
+
+// Whether two nodes are in range and differ.
+pub(crate) fn ends_ok(from: u32, to: u32) -> bool
+    ensures { λ r. ⌜ r ≡ ends-ok from to ⌝ }
+{
+    if LAST_NODE < from {
+        return false;
+    }
+    if LAST_NODE < to {
+        return false;
+    }
+    if from == to {
+        return false;
+    }
+    true
+}
+
+// Whether every field of a request is in range, and its nodes differ.
+fn request_ok(request: Request) -> bool
+    ensures { λ r. ⌜ r ≡ request-ok request ⌝ }
+{
+    if !ends_ok(request.from, request.to) {
+        return false;
+    }
+    if !in_range(1, MAX_BANDWIDTH, request.bandwidth.0) {
+        return false;
+    }
+    if !in_range(1, MAX_DURATION, request.duration.0) {
+        return false;
+    }
+    if MAX_MINUTE < request.earliest.0 {
+        return false;
+    }
+    if MAX_MINUTE < request.latest.0 {
+        return false;
+    }
+    true
+}
+
+// Document 01's low: the later of earliest start and clock.
+pub(crate) fn low_minute(earliest: Minute, clock: Minute) -> Minute
+    ensures { λ r. ⌜ r .0 ≡ max (earliest .0) (clock .0) ⌝ }
+{
+    if earliest.0 < clock.0 {
+        clock
+    } else {
+        earliest
+    }
+}
+
+// The number of the first check of its own that an offer does not pass, or 0.
+pub(crate) fn offer_refusal(clock: Minute, request: Request) -> u32
+    ensures { λ r. ⌜ r ≡ first-refusal (own-checks [] (plain-in (clock .0) [] 0) (Ask.offer request)) ⌝ }
+{
+    if !request_ok(request) {
+        return BAD_FIELD;
+    }
+    if request.latest.0 < low_minute(request.earliest, clock).0 {
+        return TOO_LATE;
+    }
+    0
+}
+
+// The number of the first check of its own that a booking does not pass, or 0.
+pub(crate) fn book_refusal(head: Head, book: &[u32], number: u32, request: Request) -> u32
+    requires { ⌜ head .bookings * place-size ≤ length (now book) ⌝ }
+    ensures { λ r. ⌜ r ≡ first-refusal (own-checks [] (plain-in (head .clock .0) (now (book .entry)) (head .bookings)) (Ask.book number request)) ⌝ }
+{
+    if !in_range(1, MAX_NUMBER, number) {
+        return BAD_FIELD;
+    }
+    let refusal = offer_refusal(head.clock, request);
+    if refusal != 0 {
+        return refusal;
+    }
+    let count = head.bookings as usize;
+    if let Standing::At(_) = find(book, count, number) {
+        return NUMBER_STANDS;
+    }
+    if BOOKINGS <= count {
+        return BOOK_FULL;
+    }
+    0
+}
+
+// The number of the first check of the tables that a call does not pass, or 0: their sizes, and whether they are sound.
+pub(crate) fn table_refusal(
+    head: Head,
+    links: LinkTable,
+    events: &[u32],
+    free: &[u32],
+    book: &[u32],
+) -> u32
+    ensures { λ r. ⌜ r ≡ tables-refusal (links-of links) (lent head (now (events .entry)) (now (free .entry)) (now (book .entry))) ⌝ }
+{
+    if !sized(links.count, events.len(), free.len(), book.len()) {
+        return BAD_SIZE;
+    }
+    if !sound(head, links, events, free, book) {
+        return UNSOUND;
+    }
+    0
+}
