@@ -1,0 +1,141 @@
+//! Random sessions as the bytes of the program's input, and random histories of the six calls as values.
+
+use support::Random;
+
+use crate::calls::{any_call, bad_link, first_minute, net, order, pick, style, walkable, Style};
+use crate::lines::{answer, link_bytes, opening, order_bytes, read_order};
+use crate::plain::{Answer, Call, Desk};
+use crate::{Link, LINKS};
+
+/// The input of a session. One in twelve stops at its head; one in four ends in a piece of 1 to 15 bytes.
+pub fn session(seed: u64) -> Vec<u8> {
+    let mut random = Random::new(seed);
+    let style = style(&mut random);
+    let links = net(&mut random, style);
+    if random.once_in(12) {
+        return damaged_head(&mut random, &links);
+    }
+    let mut bytes = head_bytes(&links);
+    let (mut desk, _) = opening(&bytes).expect("a valid head");
+    let orders = match style {
+        _ if random.once_in(25) => random.within(300, 600),
+        Style::Full => random.within(70, 160),
+        _ => random.within(0, 80),
+    };
+    let first = Call::MoveClock(first_minute(&mut random, style));
+    for place in 0..orders {
+        let call = if place == 0 { first.clone() } else { order(&mut random, style, &desk) };
+        let piece = spoiled(&mut random, &desk, order_bytes(&call));
+        answer(&mut desk, &piece);
+        bytes.extend(piece);
+    }
+    if random.once_in(4) {
+        let piece = order_bytes(&order(&mut random, style, &desk));
+        bytes.extend(&piece[..random.within(1, 15) as usize]);
+    }
+    bytes
+}
+
+fn head_bytes(links: &[Link]) -> Vec<u8> {
+    let mut bytes = vec![links.len() as u8];
+    links.iter().for_each(|link| bytes.extend(link_bytes(link)));
+    bytes
+}
+
+/// A head that the program refuses, for one reason or for several at once, with a few bytes behind it.
+fn damaged_head(random: &mut Random, links: &[Link]) -> Vec<u8> {
+    if random.once_in(8) {
+        return Vec::new();
+    }
+    let mut bytes = head_bytes(links);
+    if random.once_in(2) {
+        bytes.extend(order_bytes(&Call::Cancel(1)));
+    }
+    let some_link = |random: &mut Random| 1 + 8 * random.below(links.len() as u64) as usize;
+    for _ in 0..random.within(1, 2) {
+        match random.below(5) {
+            0 => bytes[0] = *pick(random, &[0, LINKS as u8 + 1, 200, 255]),
+            1 => bytes.truncate(random.within(1, 8 * links.len() as u64) as usize),
+            2 => {
+                let bit = random.within(30, 63) as usize;
+                flip(&mut bytes, some_link(random) * 8 + bit);
+            }
+            3 => {
+                let record = link_bytes(&bad_link(random));
+                let place = some_link(random);
+                bytes.iter_mut().skip(place).zip(record).for_each(|(byte, new)| *byte = new);
+            }
+            _ => {
+                let place = some_link(random);
+                bytes.iter_mut().skip(place).take(8).for_each(|byte| *byte = random.next() as u8);
+            }
+        }
+    }
+    bytes
+}
+
+/// An order's bytes, one in twenty of them damaged: a bit changed, another kind, or any bytes.
+fn spoiled(random: &mut Random, desk: &Desk, piece: [u8; 16]) -> [u8; 16] {
+    if !random.once_in(20) {
+        return piece;
+    }
+    let mut bytes = piece;
+    match random.below(8) {
+        0..=3 => flip(&mut bytes, random.below(128) as usize),
+        4..=6 => bytes[0] = bytes[0] & 0x0F | (random.next() as u8) << 4,
+        _ => bytes.iter_mut().for_each(|byte| *byte = random.next() as u8),
+    }
+    // A clock move so far that nothing is left would end what the session is for.
+    match read_order(&bytes) {
+        Ok(Call::MoveClock(minute)) if minute > desk.clock.saturating_add(100_000) => piece,
+        Ok(call) if !walkable(desk, &call) => piece,
+        _ => bytes,
+    }
+}
+
+/// Changes a bit, counted from the front; a bit past the end is left alone.
+fn flip(bytes: &mut [u8], bit: usize) {
+    if let Some(byte) = bytes.get_mut(bit / 8) {
+        *byte ^= 0x80 >> (bit % 8);
+    }
+}
+
+/// A history of calls on one desk. Each step makes a call that suits what the desk holds.
+pub struct History {
+    random: Random,
+    style: Style,
+    just_set_up: bool,
+    pub desk: Desk,
+}
+
+impl History {
+    /// The history behind a set-up with the links of `desk`, which is accepted.
+    pub fn new(seed: u64) -> History {
+        let mut random = Random::new(seed);
+        let style = style(&mut random);
+        let desk = Desk::set_up(&net(&mut random, style)).expect("a valid net");
+        History { random, style, just_set_up: true, desk }
+    }
+
+    /// A next call with the independent desk's answer; `desk` is then what stands after it.
+    pub fn step(&mut self) -> (Call, Answer) {
+        let call = if self.just_set_up {
+            Call::MoveClock(first_minute(&mut self.random, self.style))
+        } else {
+            any_call(&mut self.random, self.style, &self.desk)
+        };
+        let answer = self.desk.answer(&call);
+        self.just_set_up = answer == Answer::SetUp;
+        (call, answer)
+    }
+
+    /// A booking of another number and its cancellation, which leave the desk as it is; none if the booking is refused.
+    pub fn detour(&mut self) -> Option<[(Call, Answer); 2]> {
+        let Call::Book(number, request) = order(&mut self.random, self.style, &self.desk) else { return None };
+        let mut desk = self.desk.clone();
+        let calls = [Call::Book(number, request), Call::Cancel(number)];
+        let [booked, cancelled] = calls.each_ref().map(|call| desk.answer(call));
+        let [book, cancel] = calls;
+        matches!(booked, Answer::Booked(_)).then_some([(book, booked), (cancel, cancelled)])
+    }
+}
