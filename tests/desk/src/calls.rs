@@ -79,28 +79,24 @@ pub fn first_minute(random: &mut Random, style: Style) -> u32 {
     }
 }
 
-/// A random order: a booking, an offer, a cancellation or a clock move. A field may be out of its range.
+/// A random order: a booking, an offer, a cancellation or a clock move. A field may be out of its range, and a latest start
+/// may be OPEN.
 pub fn order(random: &mut Random, style: Style, desk: &Desk) -> Call {
     let (book, offer, cancel) = match style {
         Style::Full => (86, 92, 97),
         Style::Late => (60, 75, 93),
         _ => (55, 70, 86),
     };
-    loop {
-        let call = match random.below(100) {
-            roll if roll < book => Call::Book(number(random, style, desk), request(random, style, desk, true)),
-            roll if roll < offer => Call::Offer(request(random, style, desk, false)),
-            roll if roll < cancel => Call::Cancel(cancelled(random, desk)),
-            _ => Call::MoveClock(new_minute(random, style, desk)),
-        };
-        if walkable(desk, &call) {
-            return call;
-        }
+    match random.below(100) {
+        roll if roll < book => Call::Book(number(random, style, desk), request(random, style, desk, true)),
+        roll if roll < offer => Call::Offer(request(random, style, desk, false)),
+        roll if roll < cancel => Call::Cancel(cancelled(random, desk)),
+        _ => Call::MoveClock(new_minute(random, style, desk)),
     }
 }
 
 /// A random one of the six calls. Set-ups are rare, and one in three of them is bad.
-pub fn any_call(random: &mut Random, style: Style, desk: &Desk) -> Call {
+pub fn call(random: &mut Random, style: Style, desk: &Desk) -> Call {
     match random.below(200) {
         0 => Call::SetUp(changed_net(random, style)),
         1..=30 => {
@@ -120,7 +116,7 @@ pub fn any_call(random: &mut Random, style: Style, desk: &Desk) -> Call {
         _ => {
             let mut call = order(random, style, desk);
             if let Call::Book(_, request) | Call::Offer(request) = &mut call {
-                // Only a record can leave the latest start open.
+                // Only a record leaves the latest start open.
                 if request.latest == OPEN && !random.once_in(30) {
                     request.latest = MAX_MINUTE;
                 }
@@ -235,9 +231,10 @@ fn request(random: &mut Random, style: Style, desk: &Desk, stands: bool) -> Requ
         3 => MAX_MINUTE + 1,
         4 => MAX_MINUTE,
         5..=15 => low,
-        16..=30 => near_event(random, desk).max(low),
-        31..=65 => OPEN,
-        _ => low.saturating_add(random.within(1, 25) as u32),
+        16..=30 => near_event(random, desk).clamp(low, low.max(MAX_MINUTE)),
+        31..=40 => OPEN,
+        41..=65 if style != Style::Long => OPEN,
+        _ => (low + random.within(1, 25) as u32).min(low.max(MAX_MINUTE)),
     };
     Request { from, to, bandwidth: bandwidth(random, style, desk, low), duration, earliest, latest }
 }
@@ -273,18 +270,16 @@ fn bandwidth(random: &mut Random, style: Style, desk: &Desk, low: u32) -> u32 {
     }
 }
 
-/// Whether the independent desk answers the call within a short walk.
+/// Whether the independent desk answers the call within a short walk: it refuses it before it chooses, or the window ends
+/// soon, or a start is found soon.
 pub fn walkable(desk: &Desk, call: &Call) -> bool {
     let (Call::Book(_, request) | Call::Offer(request)) = call else { return true };
     let low = desk.low(request);
-    let last = desk.events().last().map_or(low, |&event| event.min(request.latest.min(MAX_MINUTE)));
-    let near = Request { latest: low.saturating_add(1_000), ..*request };
-    last.saturating_sub(low) <= LONGEST_WALK || small(&near) && desk.choose(&near, Walk::ToLastEvent).is_some()
-}
-
-/// Whether a request's figures are small enough for a choice to be computed.
-fn small(request: &Request) -> bool {
-    (request.from as usize) < NODES && (request.to as usize) < NODES && request.latest <= MAX_MINUTE
+    let last_event = desk.events().last().copied().unwrap_or(low);
+    let near = Request { latest: request.latest.min(low.saturating_add(1_000)), ..*request };
+    request.latest.min(last_event).saturating_sub(low) <= LONGEST_WALK
+        || desk.check(request).is_err()
+        || desk.choose(&near, Walk::ToLastEvent).is_some()
 }
 
 pub fn pick<'a, T>(random: &mut Random, list: &'a [T]) -> &'a T {

@@ -227,11 +227,19 @@ impl Desk {
         changes.extend([0, u32::MAX]);
         changes.sort();
         let spans = changes.windows(2).map(|pair| (pair[0], pair[1]));
-        spans.filter(|&(from, to)| from < to && self.residual(link, from) < bandwidth as i64).collect()
+        let mut short: Vec<(u32, u32)> =
+            spans.filter(|&(from, to)| from < to && self.residual(link, from) < bandwidth as i64).collect();
+        // Spans that touch become one.
+        short.dedup_by(|next, last| {
+            let touches = last.1 == next.0;
+            last.1 = if touches { next.1 } else { last.1 };
+            touches
+        });
+        short
     }
 
-    /// Refuses 4, then 5.
-    fn check(&self, request: &Request) -> Result<(), u32> {
+    /// What stops a request before a start is chosen: 4, then 5.
+    pub fn check(&self, request: &Request) -> Result<(), u32> {
         let in_range = (request.from as usize) < NODES
             && (request.to as usize) < NODES
             && (1..=MAX_BANDWIDTH).contains(&request.bandwidth)

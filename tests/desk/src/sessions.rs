@@ -2,7 +2,7 @@
 
 use support::Random;
 
-use crate::calls::{any_call, bad_link, first_minute, net, order, pick, style, walkable, Style};
+use crate::calls::{bad_link, call, first_minute, net, order, pick, style, walkable, Style};
 use crate::lines::{answer, link_bytes, opening, order_bytes, read_order};
 use crate::plain::{Answer, Call, Desk};
 use crate::{Link, LINKS};
@@ -22,15 +22,16 @@ pub fn session(seed: u64) -> Vec<u8> {
         Style::Full => random.within(70, 160),
         _ => random.within(0, 80),
     };
-    let first = Call::MoveClock(first_minute(&mut random, style));
-    for place in 0..orders {
-        let call = if place == 0 { first.clone() } else { order(&mut random, style, &desk) };
-        let piece = spoiled(&mut random, &desk, order_bytes(&call));
+    let mut piece = order_bytes(&Call::MoveClock(first_minute(&mut random, style)));
+    for _ in 0..orders {
         answer(&mut desk, &piece);
         bytes.extend(piece);
+        piece = order_piece(&mut random, style, &desk);
+        while read_order(&piece).is_ok_and(|call| !walkable(&desk, &call)) {
+            piece = order_piece(&mut random, style, &desk);
+        }
     }
     if random.once_in(4) {
-        let piece = order_bytes(&order(&mut random, style, &desk));
         bytes.extend(&piece[..random.within(1, 15) as usize]);
     }
     bytes
@@ -74,23 +75,16 @@ fn damaged_head(random: &mut Random, links: &[Link]) -> Vec<u8> {
     bytes
 }
 
-/// An order's bytes, one in twenty of them damaged: a bit changed, another kind, or any bytes.
-fn spoiled(random: &mut Random, desk: &Desk, piece: [u8; 16]) -> [u8; 16] {
-    if !random.once_in(20) {
-        return piece;
-    }
-    let mut bytes = piece;
-    match random.below(8) {
+/// The bytes of an order, one in twenty of them damaged: a bit changed, another kind, or any bytes.
+fn order_piece(random: &mut Random, style: Style, desk: &Desk) -> [u8; 16] {
+    let mut bytes = order_bytes(&order(random, style, desk));
+    match random.below(160) {
         0..=3 => flip(&mut bytes, random.below(128) as usize),
         4..=6 => bytes[0] = bytes[0] & 0x0F | (random.next() as u8) << 4,
-        _ => bytes.iter_mut().for_each(|byte| *byte = random.next() as u8),
+        7 => bytes.iter_mut().for_each(|byte| *byte = random.next() as u8),
+        _ => {}
     }
-    // A clock move so far that nothing is left would end what the session is for.
-    match read_order(&bytes) {
-        Ok(Call::MoveClock(minute)) if minute > desk.clock.saturating_add(100_000) => piece,
-        Ok(call) if !walkable(desk, &call) => piece,
-        _ => bytes,
-    }
+    bytes
 }
 
 /// Changes a bit, counted from the front; a bit past the end is left alone.
@@ -122,16 +116,25 @@ impl History {
         let call = if self.just_set_up {
             Call::MoveClock(first_minute(&mut self.random, self.style))
         } else {
-            any_call(&mut self.random, self.style, &self.desk)
+            self.walkable_call()
         };
         let answer = self.desk.answer(&call);
         self.just_set_up = answer == Answer::SetUp;
         (call, answer)
     }
 
+    fn walkable_call(&mut self) -> Call {
+        loop {
+            let call = call(&mut self.random, self.style, &self.desk);
+            if walkable(&self.desk, &call) {
+                return call;
+            }
+        }
+    }
+
     /// A booking of another number and its cancellation, which leave the desk as it is; none if the booking is refused.
     pub fn detour(&mut self) -> Option<[(Call, Answer); 2]> {
-        let Call::Book(number, request) = order(&mut self.random, self.style, &self.desk) else { return None };
+        let Call::Book(number, request) = self.walkable_call() else { return None };
         let mut desk = self.desk.clone();
         let calls = [Call::Book(number, request), Call::Cancel(number)];
         let [booked, cancelled] = calls.each_ref().map(|call| desk.answer(call));

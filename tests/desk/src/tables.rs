@@ -27,8 +27,7 @@ impl Tables {
 /// The tables of a desk. No link may be oversold.
 pub fn of(desk: &Desk) -> Tables {
     let mut tables = Tables::filled_with(0);
-    tables.head =
-        Head { clock: desk.clock, links: desk.links.len() as u32, bookings: desk.bookings.len() as u32 };
+    tables.head = Head { clock: desk.clock, links: desk.links.len() as u32, bookings: desk.bookings.len() as u32 };
     for (row, minute) in desk.events().into_iter().enumerate() {
         tables.events[row] = minute;
         for (link, figure) in desk.residuals(minute).into_iter().enumerate() {

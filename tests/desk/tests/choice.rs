@@ -34,9 +34,8 @@ fn best(links: &[Link], usable: &dyn Fn(u32) -> bool, from: u32, to: u32) -> Opt
 /// The choice in document 01's words: every minute of the window, every minute of the span.
 fn literal(desk: &Desk, request: &Request) -> Option<Start> {
     (desk.low(request)..=request.latest).find_map(|minute| {
-        let enough = |link: u32| {
-            (minute..minute + request.duration).all(|m| desk.residual(link, m) >= request.bandwidth as i64)
-        };
+        let enough =
+            |link: u32| (minute..minute + request.duration).all(|m| desk.residual(link, m) >= request.bandwidth as i64);
         best(&desk.links, &enough, request.from, request.to).map(|path| Start { minute, path })
     })
 }
@@ -73,7 +72,8 @@ fn busy(random: &mut Random, breadth: u64) -> Desk {
     for number in 1..=random.below(12) as u32 {
         let from = random.below(desk.links.len() as u64) as u32;
         let mut path = vec![from];
-        let joined = |other: &Link| other.from == desk.links[from as usize].to && other.to != desk.links[from as usize].from;
+        let joined =
+            |other: &Link| other.from == desk.links[from as usize].to && other.to != desk.links[from as usize].from;
         if let Some(next) = desk.links.iter().position(joined).filter(|_| random.once_in(2)) {
             path.push(next as u32);
         }

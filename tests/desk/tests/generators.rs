@@ -246,9 +246,8 @@ fn damages_are_of_every_kind() {
 /// Books that break one rule each, with head, events and free figures made to agree wherever there are such.
 #[test]
 fn unsound_books() {
-    let links: Vec<_> = [(0, 1), (1, 2), (2, 0), (2, 1)]
-        .map(|(from, to)| desk_tests::Link { from, to, capacity: 10 })
-        .to_vec();
+    let links: Vec<_> =
+        [(0, 1), (1, 2), (2, 0), (2, 1)].map(|(from, to)| desk_tests::Link { from, to, capacity: 10 }).to_vec();
     let booking = |number, start, duration, bandwidth, path: &[u32]| desk_tests::plain::Booking {
         number,
         start,

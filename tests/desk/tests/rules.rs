@@ -114,7 +114,10 @@ fn records_are_read_as_they_are_written() {
         assert_eq!(link_bytes(&link), bytes, "seed {seed:#x}, turn {turn}");
         let order = ((random.next() as u128) << 64 | random.next() as u128).to_be_bytes();
         if let Ok(call) = read_order(&order) {
-            assert!(order[0] >> 4 == 1 || order[0] >> 4 == 4 || order_bytes(&call) == order, "seed {seed:#x}, turn {turn}");
+            assert!(
+                order[0] >> 4 == 1 || order[0] >> 4 == 4 || order_bytes(&call) == order,
+                "seed {seed:#x}, turn {turn}"
+            );
         }
         for bit in 30..64 {
             let mut spoiled = bytes;
