@@ -19,6 +19,8 @@ pub enum Style {
     Chain,
     /// So many small bookings that the 64th and a 65th occur.
     Full,
+    /// As full, with starts and ends so far apart that all 129 events occur.
+    Spread,
     /// Bookings of up to 525,600 minutes on few links.
     Long,
     /// The clock stands shortly before the last minute.
@@ -27,11 +29,16 @@ pub enum Style {
     Far,
 }
 
-pub const STYLES: [Style; 7] =
-    [Style::Dense, Style::Wide, Style::Chain, Style::Full, Style::Long, Style::Late, Style::Far];
+pub const STYLES: [Style; 8] =
+    [Style::Dense, Style::Wide, Style::Chain, Style::Full, Style::Spread, Style::Long, Style::Late, Style::Far];
 
 /// No request may make the independent desk walk through more minutes than this.
 const LONGEST_WALK: u32 = 1_500_000;
+
+/// Whether the book fills up.
+pub fn fills(style: Style) -> bool {
+    matches!(style, Style::Full | Style::Spread)
+}
 
 pub fn style(random: &mut Random) -> Style {
     *pick(random, &STYLES)
@@ -40,14 +47,14 @@ pub fn style(random: &mut Random) -> Style {
 /// A net of 1 to 64 valid links.
 pub fn net(random: &mut Random, style: Style) -> Vec<Link> {
     let capacity = match style {
-        Style::Full => *pick(random, &[60, 400, MAX_CAPACITY as u64]),
+        Style::Full | Style::Spread => *pick(random, &[60, 400, MAX_CAPACITY as u64]),
         _ => *pick(random, &[3, 10, 20, 1_000, MAX_CAPACITY as u64]),
     };
     let (nodes, links) = match style {
         Style::Dense | Style::Late | Style::Far => (random.within(2, 5), random.within(1, 14)),
         Style::Wide => (NODES as u64, random.within(32, LINKS as u64)),
         Style::Chain => (NODES as u64, *pick(random, &[31, 31, 36, 62, 64])),
-        Style::Full => (random.within(2, 4), random.within(2, 8)),
+        Style::Full | Style::Spread => (random.within(2, 4), random.within(2, 8)),
         Style::Long => (random.within(2, 4), random.within(1, 6)),
     };
     let mut net: Vec<Link> = (0..links)
@@ -83,7 +90,7 @@ pub fn first_minute(random: &mut Random, style: Style) -> u32 {
 /// may be OPEN.
 pub fn order(random: &mut Random, style: Style, desk: &Desk) -> Call {
     let (book, offer, cancel) = match style {
-        Style::Full => (86, 92, 97),
+        Style::Full | Style::Spread => (86, 92, 97),
         Style::Late => (60, 75, 93),
         _ => (55, 70, 86),
     };
@@ -160,7 +167,7 @@ fn number(random: &mut Random, style: Style, desk: &Desk) -> u32 {
         0 => *pick(random, &[0, MAX_NUMBER + 1, u32::MAX]),
         1 => MAX_NUMBER,
         2..=4 => standing(random, desk),
-        _ if style == Style::Full => random.within(1, 400) as u32,
+        _ if fills(style) => random.within(1, 400) as u32,
         _ => random.within(1, 60) as u32,
     }
 }
@@ -182,13 +189,13 @@ fn standing(random: &mut Random, desk: &Desk) -> u32 {
 }
 
 fn new_minute(random: &mut Random, style: Style, desk: &Desk) -> u32 {
-    let step = if style == Style::Full { 2 } else { 12 };
+    let step = if fills(style) { 2 } else { 12 };
     match random.below(16) {
         0 => desk.clock,
         1 | 2 => desk.clock.saturating_sub(random.within(1, 5) as u32),
         3 => *pick(random, &[MAX_MINUTE + 1, u32::MAX]),
-        4 if random.once_in(20) => MAX_MINUTE,
-        5..=8 if style != Style::Full => near_event(random, desk).min(MAX_MINUTE),
+        4 if random.once_in(20) && !fills(style) => MAX_MINUTE,
+        5..=8 if !fills(style) => near_event(random, desk).min(MAX_MINUTE),
         _ => desk.clock.saturating_add(random.within(1, step) as u32).min(MAX_MINUTE),
     }
 }
@@ -213,12 +220,14 @@ fn request(random: &mut Random, style: Style, desk: &Desk, stands: bool) -> Requ
         5..=30 if style == Style::Long => MAX_DURATION - random.below(3) as u32,
         31..=40 => 1,
         _ if style == Style::Full => random.within(20, 90) as u32,
+        _ if style == Style::Spread => random.within(1, 20_000) as u32,
         41..=70 => random.within(10, 40) as u32,
         _ => random.within(1, 15) as u32,
     };
     let earliest = match random.below(100) {
         0 => MAX_MINUTE + 1,
         1 if style != Style::Long => *pick(random, &[MAX_MINUTE, MAX_MINUTE - 1]),
+        2.. if style == Style::Spread && !random.once_in(100) => desk.clock + random.within(20, 30_000) as u32,
         2..=15 => 0,
         16..=40 => near_event(random, desk),
         41 | 42 if style == Style::Far => random.below(MAX_MINUTE as u64) as u32,
@@ -261,7 +270,7 @@ fn bandwidth(random: &mut Random, style: Style, desk: &Desk, low: u32) -> u32 {
         0 => 0,
         1 => *pick(random, &[MAX_CAPACITY, MAX_CAPACITY + 1, 0xF_FFFF]),
         2..=4 => capacity + 1,
-        _ if style == Style::Full => random.within(1, 1 + capacity as u64 / 60) as u32,
+        _ if fills(style) => random.within(1, 1 + capacity as u64 / 60) as u32,
         5..=15 => capacity,
         16..=30 => desk.residual(link, low).max(1) as u32,
         31..=36 => desk.residual(link, low) as u32 + 1,

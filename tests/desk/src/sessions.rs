@@ -2,7 +2,7 @@
 
 use support::Random;
 
-use crate::calls::{bad_link, call, first_minute, net, order, pick, style, walkable, Style};
+use crate::calls::{bad_link, call, fills, first_minute, net, order, pick, style, walkable, Style};
 use crate::lines::{answer, link_bytes, opening, order_bytes, read_order};
 use crate::plain::{Answer, Call, Desk};
 use crate::{Link, LINKS};
@@ -11,28 +11,35 @@ use crate::{Link, LINKS};
 pub fn session(seed: u64) -> Vec<u8> {
     let mut random = Random::new(seed);
     let style = style(&mut random);
-    let links = net(&mut random, style);
     if random.once_in(12) {
+        let links = net(&mut random, style);
         return damaged_head(&mut random, &links);
     }
-    let mut bytes = head_bytes(&links);
-    let (mut desk, _) = opening(&bytes).expect("a valid head");
-    let orders = match style {
-        _ if random.once_in(25) => random.within(300, 600),
-        Style::Full => random.within(70, 160),
+    let orders = match random.below(25) {
+        0 => random.within(300, 600),
+        _ if fills(style) => random.within(70, 160),
         _ => random.within(0, 80),
     };
-    let mut piece = order_bytes(&Call::MoveClock(first_minute(&mut random, style)));
+    let mut bytes = orders_file(&mut random, style, orders);
+    if random.once_in(4) {
+        let piece = order_bytes(&Call::Cancel(1));
+        bytes.extend(&piece[..random.within(1, 15) as usize]);
+    }
+    bytes
+}
+
+/// The bytes of a valid head and of so many orders, a few of them damaged, each suited to what the desk then holds.
+pub fn orders_file(random: &mut Random, style: Style, orders: u64) -> Vec<u8> {
+    let mut bytes = head_bytes(&net(random, style));
+    let (mut desk, _) = opening(&bytes).expect("a valid head");
+    let mut piece = order_bytes(&Call::MoveClock(first_minute(random, style)));
     for _ in 0..orders {
         answer(&mut desk, &piece);
         bytes.extend(piece);
-        piece = order_piece(&mut random, style, &desk);
+        piece = order_piece(random, style, &desk);
         while read_order(&piece).is_ok_and(|call| !walkable(&desk, &call)) {
-            piece = order_piece(&mut random, style, &desk);
+            piece = order_piece(random, style, &desk);
         }
-    }
-    if random.once_in(4) {
-        bytes.extend(&piece[..random.within(1, 15) as usize]);
     }
     bytes
 }
@@ -43,7 +50,7 @@ fn head_bytes(links: &[Link]) -> Vec<u8> {
     bytes
 }
 
-/// A head that the program refuses, for one reason or for several at once, with a few bytes behind it.
+/// A head with one or two damages, sometimes with an order behind it; or no byte at all.
 fn damaged_head(random: &mut Random, links: &[Link]) -> Vec<u8> {
     if random.once_in(8) {
         return Vec::new();

@@ -2,10 +2,10 @@
 
 use desk_tests::damages::damage;
 use desk_tests::lines::{answer, line, opening, output, read_order};
-use desk_tests::plain::{Answer, Call, Desk};
+use desk_tests::plain::{Answer, Booking, Call, Desk};
 use desk_tests::sessions::{session, History};
 use desk_tests::tables::{self, Tables};
-use desk_tests::{MAX_DURATION, MAX_MINUTE};
+use desk_tests::{Link, MAX_DURATION, MAX_MINUTE};
 use support::Random;
 
 const SESSIONS: u64 = 3_000;
@@ -24,6 +24,7 @@ struct Counts {
     stayed: u32,
     sixty_fourth: u32,
     six_on_a_full_book: u32,
+    events_129: u32,
     cancelled_running: u32,
     a_year: u32,
     too_long: u32,
@@ -55,6 +56,7 @@ impl Counts {
             (Ok(Call::Book(_, request)), Answer::Booked(start)) => {
                 self.booked += 1;
                 self.sixty_fourth += (after.bookings.len() == 64) as u32;
+                self.events_129 += (after.events().len() == 129) as u32;
                 self.a_year += (request.duration == MAX_DURATION) as u32;
                 self.one_minute += (request.duration == 1) as u32;
                 self.last_minute += (start.minute == MAX_MINUTE) as u32;
@@ -64,7 +66,7 @@ impl Counts {
             }
             (Ok(Call::Cancel(number)), Answer::Cancelled) => {
                 self.cancelled += 1;
-                let running = |booking: &&_| booking_runs(booking, number, desk.clock);
+                let running = |booking: &&Booking| booking.number == number && booking.start < desk.clock;
                 self.cancelled_running += desk.bookings.iter().filter(running).count() as u32;
             }
             (Ok(Call::MoveClock(minute)), Answer::Moved) => {
@@ -86,10 +88,6 @@ impl Counts {
         self.nodes_32 += (nodes.len() == 32) as u32;
         self.links_64 += (desk.links.len() == 64) as u32;
     }
-}
-
-fn booking_runs(booking: &desk_tests::plain::Booking, number: u32, clock: u32) -> bool {
-    booking.number == number && booking.start < clock
 }
 
 #[test]
@@ -137,12 +135,13 @@ fn sessions_cover_everything() {
         ("moved to the same minute", counts.stayed, 500),
         ("64th booking", counts.sixty_fourth, 300),
         ("refused 6 on a full book", counts.six_on_a_full_book, 100),
+        ("129 events", counts.events_129, 50),
         ("525,600 minutes", counts.a_year, 500),
         ("525,601 minutes", counts.too_long, 500),
         ("one minute", counts.one_minute, 1_000),
         ("last minute", counts.last_minute, 300),
         ("last ten minutes", counts.last_ten_minutes, 1_000),
-        ("later than low", counts.later_than_low, 3_000),
+        ("later than low", counts.later_than_low, 2_500),
         ("31 links", counts.links_31, 30),
         ("64 links", counts.links_64, 50),
         ("32 nodes", counts.nodes_32, 300),
@@ -246,19 +245,18 @@ fn damages_are_of_every_kind() {
 /// Books that break one rule each, with head, events and free figures made to agree wherever there are such.
 #[test]
 fn unsound_books() {
-    let links: Vec<_> =
-        [(0, 1), (1, 2), (2, 0), (2, 1)].map(|(from, to)| desk_tests::Link { from, to, capacity: 10 }).to_vec();
-    let booking = |number, start, duration, bandwidth, path: &[u32]| desk_tests::plain::Booking {
+    let links: Vec<_> = [(0, 1), (1, 2), (2, 0), (2, 1)].map(|(from, to)| Link { from, to, capacity: 10 }).to_vec();
+    let booking = |number, start, duration, bandwidth, path: &[u32]| Booking {
         number,
         start,
         duration,
         bandwidth,
         path: path.to_vec(),
     };
-    let tables = |clock, bookings: &[desk_tests::plain::Booking]| {
-        tables::of(&Desk { links: links.clone(), clock, bookings: bookings.to_vec() })
-    };
+    let tables =
+        |clock, bookings: &[Booking]| tables::of(&Desk { links: links.clone(), clock, bookings: bookings.to_vec() });
     let good = booking(5, 3, 4, 6, &[0, 1]);
+    let later = |number| booking(number, 20, 4, 6, &[0, 1]);
     let cases: Vec<(&str, Tables, bool)> = vec![
         ("a good book", tables(0, &[good.clone()]), true),
         ("a running booking", tables(6, &[good.clone()]), true),
@@ -276,8 +274,8 @@ fn unsound_books() {
         ("links that don't join", tables(0, &[booking(1, 3, 4, 6, &[0, 2])]), false),
         ("a path back to its source", tables(0, &[booking(1, 3, 4, 1, &[0, 1, 2])]), false),
         ("a node met twice", tables(0, &[booking(1, 3, 4, 1, &[0, 1, 3])]), false),
-        ("the same number twice", tables(0, &[good.clone(), good.clone().with(5, 20)]), false),
-        ("two numbers", tables(0, &[good.clone(), good.clone().with(6, 20)]), true),
+        ("the same number twice", tables(0, &[good.clone(), later(5)]), false),
+        ("two numbers", tables(0, &[good.clone(), later(6)]), true),
         ("a clock behind the last minute", tables(MAX_MINUTE + 1, &[]), false),
         ("the last minute", tables(MAX_MINUTE, &[]), true),
     ];
@@ -285,21 +283,10 @@ fn unsound_books() {
         assert_eq!(tables::sound(&links, &tables), sound, "{what}");
     }
     // Another order of the book; more on a link than it has, which no free figures can show.
-    let mut falling = tables(0, &[good.clone(), good.clone().with(6, 20)]);
+    let mut falling = tables(0, &[good.clone(), later(6)]);
     falling.book.swap(0, 36);
     assert!(!tables::sound(&links, &falling), "falling numbers");
-    let mut oversold = tables(0, &[good.clone(), good.clone().with(6, 20)]);
+    let mut oversold = tables(0, &[good.clone(), later(6)]);
     oversold.book[36 + 1] = 4;
     assert!(!tables::sound(&links, &oversold), "an oversold link");
-}
-
-trait With {
-    fn with(self, number: u32, start: u32) -> Self;
-}
-
-impl With for desk_tests::plain::Booking {
-    /// The same booking under another number, at another start.
-    fn with(self, number: u32, start: u32) -> Self {
-        desk_tests::plain::Booking { number, start, ..self }
-    }
 }
