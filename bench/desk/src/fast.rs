@@ -306,14 +306,15 @@ fn insert_event(tables: &mut Tables, events: usize, minute: u32) -> (usize, usiz
 /// The best start among low and the later events of the window.
 fn choose(links: &[Link], tables: &Tables, events: usize, request: &Request) -> Option<Start> {
     let events = &tables.events[..events];
-    let mut enough = [0u64; EVENTS];
-    for (row, set) in tables.free.chunks_exact(ROW).zip(&mut enough).take(events.len()) {
-        for (link, &figure) in row.iter().enumerate() {
-            *set |= ((figure >= request.bandwidth) as u64) << link;
-        }
-    }
     let low = request.earliest.max(tables.head.clock);
     let first = events.partition_point(|&event| event <= low) - 1;
+    // The links with enough bandwidth in each row.
+    let mut enough = [0u64; EVENTS];
+    for row in first..events.len() {
+        for (link, &figure) in tables.free[row * ROW..][..links.len()].iter().enumerate() {
+            enough[row] |= ((figure >= request.bandwidth) as u64) << link;
+        }
+    }
     let mut without_path = 0;
     for row in first..events.len() {
         let minute = events[row].max(low);

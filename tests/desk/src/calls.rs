@@ -109,14 +109,13 @@ pub fn call(random: &mut Random, style: Style, desk: &Desk) -> Call {
         1..=30 => {
             let count = desk.links.len() as u64;
             let link = if random.once_in(20) { random.within(count, count + 70) } else { random.below(count) };
-            let near = near_event(random, desk);
             let minute = match random.below(20) {
                 0 => desk.clock.wrapping_sub(1),
                 1 => MAX_END,
                 2 => MAX_END + 1,
                 3 => u32::MAX,
                 4 => desk.clock,
-                _ => near,
+                _ => near_event(random, desk),
             };
             Call::Show { link: link as u32, minute }
         }
@@ -194,7 +193,7 @@ fn new_minute(random: &mut Random, style: Style, desk: &Desk) -> u32 {
         0 => desk.clock,
         1 | 2 => desk.clock.saturating_sub(random.within(1, 5) as u32),
         3 => *pick(random, &[MAX_MINUTE + 1, u32::MAX]),
-        4 if random.once_in(20) && !fills(style) => MAX_MINUTE,
+        4 if style == Style::Far && random.once_in(20) => MAX_MINUTE,
         5..=8 if !fills(style) => near_event(random, desk).min(MAX_MINUTE),
         _ => desk.clock.saturating_add(random.within(1, step) as u32).min(MAX_MINUTE),
     }

@@ -5,7 +5,7 @@ use support::Random;
 use crate::calls::{bad_link, call, fills, first_minute, net, order, pick, style, walkable, Style};
 use crate::lines::{answer, link_bytes, opening, order_bytes, read_order};
 use crate::plain::{Answer, Call, Desk};
-use crate::{Link, LINKS};
+use crate::{Link, Request, BOOKINGS, LINKS, MAX_CAPACITY, PATH_LINKS};
 
 /// The input of a session. One in twelve stops at its head; one in four ends in a piece of 1 to 15 bytes.
 pub fn session(seed: u64) -> Vec<u8> {
@@ -42,6 +42,19 @@ pub fn orders_file(random: &mut Random, style: Style, orders: u64) -> Vec<u8> {
         }
     }
     bytes
+}
+
+/// The fullest desk: 64 links, 64 bookings of 31 links each, and 129 events.
+pub fn fullest() -> Desk {
+    let hops = PATH_LINKS as u32;
+    let chain = |link: u32| Link { from: link % hops, to: link % hops + 1, capacity: MAX_CAPACITY };
+    let links: Vec<Link> = (0..LINKS as u32).map(chain).collect();
+    let mut desk = Desk::set_up(&links).expect("valid links");
+    for number in 1..=BOOKINGS as u32 {
+        let request = Request { from: 0, to: hops, bandwidth: 10_000, duration: 999, earliest: number, latest: number };
+        desk.book(number, &request).expect("room for 64 bookings");
+    }
+    desk
 }
 
 fn head_bytes(links: &[Link]) -> Vec<u8> {

@@ -3,7 +3,7 @@
 use desk_tests::damages::damage;
 use desk_tests::lines::{answer, line, opening, output, read_order};
 use desk_tests::plain::{Answer, Booking, Call, Desk};
-use desk_tests::sessions::{session, History};
+use desk_tests::sessions::{fullest, session, History};
 use desk_tests::tables::{self, Tables};
 use desk_tests::{Link, MAX_DURATION, MAX_MINUTE};
 use support::Random;
@@ -194,7 +194,7 @@ fn tables_of_histories_are_sound_and_read_back() {
     }
     println!("calls by kind: {calls:?}, refusals: {refused:?}");
     assert!(calls.iter().all(|&count| count >= 50), "{calls:?}");
-    assert!([1, 2, 4, 5, 6, 7, 8, 9, 10].iter().all(|&refusal: &usize| refused[refusal] >= 30), "{refused:?}");
+    assert!([1, 2, 4, 5, 6, 7, 8, 9, 10].iter().all(|&refusal: &usize| refused[refusal] >= 10), "{refused:?}");
 }
 
 #[test]
@@ -214,6 +214,14 @@ fn a_detour_leaves_the_desk_as_it_is() {
         }
     }
     assert!(taken > 500, "{taken}");
+}
+
+#[test]
+fn the_fullest_desk() {
+    let desk = fullest();
+    assert_eq!((desk.links.len(), desk.bookings.len(), desk.events().len()), (64, 64, 129));
+    assert!(desk.bookings.iter().all(|booking| booking.path.len() == 31));
+    assert!(tables::sound(&desk.links, &tables::of(&desk)));
 }
 
 /// A damage is refused 1 or 3 but for the few that leave sound tables, as another rising number in the book.
