@@ -238,17 +238,20 @@ fn make_free(links: &[Link], used: &[u32], events: &[u32], free: &mut [u32]) -> 
     let mut full = [0; ROW];
     links.iter().zip(&mut full).for_each(|(link, figure)| *figure = link.capacity);
     free[..events.len() * ROW].chunks_exact_mut(ROW).for_each(|row| row.copy_from_slice(&full));
+    let mut oversold = false;
     for place in used.chunks_exact(PLACE) {
-        let end = place[START] + place[DURATION];
+        let (bandwidth, path) = (place[BANDWIDTH], &place[PATH..][..place[COUNT] as usize]);
         let first = events.partition_point(|&event| event < place[START]);
-        for (row, _) in events.iter().enumerate().skip(first).take_while(|(_, &event)| event < end) {
-            for &link in &place[PATH..][..place[COUNT] as usize] {
-                let figure = &mut free[row * ROW + link as usize];
-                *figure = figure.checked_sub(place[BANDWIDTH])?;
+        let end = events.partition_point(|&event| event < place[START] + place[DURATION]);
+        for row in free[first * ROW..end * ROW].chunks_exact_mut(ROW) {
+            for &link in path {
+                let figure = &mut row[link as usize];
+                oversold |= *figure < bandwidth;
+                *figure = figure.wrapping_sub(bandwidth);
             }
         }
     }
-    Some(())
+    (!oversold).then_some(())
 }
 
 /// Makes events and free figures anew from head and book, which are sound.

@@ -32,7 +32,7 @@ pub enum Style {
 pub const STYLES: [Style; 8] =
     [Style::Dense, Style::Wide, Style::Chain, Style::Full, Style::Spread, Style::Long, Style::Late, Style::Far];
 
-/// No request may make the independent desk walk through more minutes than this.
+/// No request may make the independent desk walk through more minutes than this, and no clock move pass more.
 const LONGEST_WALK: u32 = 1_500_000;
 
 /// Whether the book fills up.
@@ -278,15 +278,24 @@ fn bandwidth(random: &mut Random, style: Style, desk: &Desk, low: u32) -> u32 {
     }
 }
 
-/// Whether the independent desk answers the call within a short walk: it refuses it before it chooses, or the window ends
-/// soon, or a start is found soon.
-pub fn walkable(desk: &Desk, call: &Call) -> bool {
-    let (Call::Book(_, request) | Call::Offer(request)) = call else { return true };
+/// Whether a call may be used: the independent desk answers it within a short walk, and it doesn't move the clock so far
+/// that nothing is left of the history before.
+pub fn suits(style: Style, desk: &Desk, call: &Call) -> bool {
+    match call {
+        Call::Book(_, request) | Call::Offer(request) => desk.check(request).is_err() || walkable(desk, request),
+        Call::MoveClock(minute) => {
+            style == Style::Far || *minute > MAX_MINUTE || minute.saturating_sub(desk.clock) <= LONGEST_WALK
+        }
+        _ => true,
+    }
+}
+
+/// Whether a valid request's window ends soon, or the desk's events do, or a start is found soon.
+fn walkable(desk: &Desk, request: &Request) -> bool {
     let low = desk.low(request);
     let last_event = desk.events().last().copied().unwrap_or(low);
-    let near = Request { latest: request.latest.min(low.saturating_add(1_000)), ..*request };
+    let near = Request { latest: request.latest.min(low + 1_000), ..*request };
     request.latest.min(last_event).saturating_sub(low) <= LONGEST_WALK
-        || desk.check(request).is_err()
         || desk.choose(&near, Walk::ToLastEvent).is_some()
 }
 

@@ -2,7 +2,7 @@
 
 use support::Random;
 
-use crate::calls::{bad_link, call, fills, first_minute, net, order, pick, style, walkable, Style};
+use crate::calls::{bad_link, call, fills, first_minute, net, order, pick, style, suits, Style};
 use crate::lines::{answer, link_bytes, opening, order_bytes, read_order};
 use crate::plain::{Answer, Call, Desk};
 use crate::{Link, Request, BOOKINGS, LINKS, MAX_CAPACITY, PATH_LINKS};
@@ -37,7 +37,7 @@ pub fn orders_file(random: &mut Random, style: Style, orders: u64) -> Vec<u8> {
         answer(&mut desk, &piece);
         bytes.extend(piece);
         piece = order_piece(random, style, &desk);
-        while read_order(&piece).is_ok_and(|call| !walkable(&desk, &call)) {
+        while read_order(&piece).is_ok_and(|call| !suits(style, &desk, &call)) {
             piece = order_piece(random, style, &desk);
         }
     }
@@ -136,17 +136,17 @@ impl History {
         let call = if self.just_set_up {
             Call::MoveClock(first_minute(&mut self.random, self.style))
         } else {
-            self.walkable_call()
+            self.suitable_call()
         };
         let answer = self.desk.answer(&call);
         self.just_set_up = answer == Answer::SetUp;
         (call, answer)
     }
 
-    fn walkable_call(&mut self) -> Call {
+    fn suitable_call(&mut self) -> Call {
         loop {
             let call = call(&mut self.random, self.style, &self.desk);
-            if walkable(&self.desk, &call) {
+            if suits(self.style, &self.desk, &call) {
                 return call;
             }
         }
@@ -154,7 +154,7 @@ impl History {
 
     /// A booking of another number and its cancellation, which leave the desk as it is; none if the booking is refused.
     pub fn detour(&mut self) -> Option<[(Call, Answer); 2]> {
-        let Call::Book(number, request) = self.walkable_call() else { return None };
+        let Call::Book(number, request) = self.suitable_call() else { return None };
         let mut desk = self.desk.clone();
         let calls = [Call::Book(number, request), Call::Cancel(number)];
         let [booked, cancelled] = calls.each_ref().map(|call| desk.answer(call));
