@@ -6,7 +6,7 @@ use std::process::{Command, Stdio};
 
 use desk_bench::fast::{self, Start};
 use desk_tests::cases::cases;
-use desk_tests::damages::damage;
+use desk_tests::damages::{damage, forged};
 use desk_tests::lines::output;
 use desk_tests::plain::{self, Answer, Call, Desk};
 use desk_tests::sessions::{session, History};
@@ -80,22 +80,29 @@ fn damages() {
         for turn in 0..100 {
             let (mut links, mut tables) = (history.desk.links.clone(), whole.clone());
             let what = damage(&mut random, &mut links, &mut tables);
-            let expected = match tables::read(&links, &tables) {
-                Err(refusal) => Answer::Refused(refusal),
-                Ok(desk) => desk.clone().answer(&Call::Show { link: 0, minute: desk.clock }),
-            };
-            let before = tables.clone();
-            let show = Call::Show { link: 0, minute: tables.head.clock };
-            assert_eq!(run(&links, &mut tables, &show), expected, "seed {seed:#x}, turn {turn}: {what}");
-            if let Answer::Refused(_) = expected {
-                for call in [Call::Cancel(1), Call::MoveClock(0), Call::Book(0, Default::default())] {
-                    let answer = run(&links, &mut tables, &call);
-                    assert_eq!(answer, expected, "seed {seed:#x}, turn {turn}: {what}, {call:?}");
-                }
-            }
-            assert!(tables == before, "a refusal writes, seed {seed:#x}, turn {turn}: {what}");
+            refused_alike(&links, tables, &format!("seed {seed:#x}, turn {turn}: {what}"));
+            let (tables, what) = forged(&mut random, &history.desk);
+            refused_alike(&history.desk.links, tables, &format!("seed {seed:#x}, turn {turn}: {what}"));
         }
     }
+}
+
+/// Tables that aren't sound are refused by every call but set-up, and nothing is written; sound ones are shown.
+fn refused_alike(links: &[Link], mut tables: Tables, what: &str) {
+    let before = tables.clone();
+    let show = Call::Show { link: 0, minute: tables.head.clock };
+    let expected = match tables::read(links, &tables) {
+        Err(refusal) => Answer::Refused(refusal),
+        Ok(mut desk) => desk.answer(&show),
+    };
+    assert_eq!(run(links, &mut tables, &show), expected, "{what}");
+    if let Answer::Refused(_) = expected {
+        let request = desk_tests::Request::default();
+        for call in [Call::Cancel(1), Call::MoveClock(0), Call::Book(0, request), Call::Offer(request)] {
+            assert_eq!(run(links, &mut tables, &call), expected, "{what}, {call:?}");
+        }
+    }
+    assert!(tables == before, "a refusal writes, {what}");
 }
 
 #[test]

@@ -1,10 +1,13 @@
-//! Random damages: one figure of the head, the events, the free figures, the book or a link changed, or a length changed.
+//! Random damages: one figure of the head, the events, the free figures, the book or a link changed, or a length changed;
+//! and forged tables, whose figures all agree with a book that breaks a rule.
 
 use support::Random;
 
 use crate::calls::pick;
-use crate::tables::Tables;
-use crate::{Link, BOOKINGS, EVENTS, LINKS, MAX_DURATION, MAX_MINUTE, MAX_NUMBER, PLACE, ROW};
+use crate::plain::Desk;
+use crate::tables::{written, Tables};
+use crate::{Link, BOOKINGS, EVENTS, LINKS, PATH_LINKS, PLACE, ROW};
+use crate::{MAX_BANDWIDTH, MAX_DURATION, MAX_MINUTE, MAX_NUMBER};
 
 /// Changes one figure or one length, and says which. A changed figure is never the one that stood there.
 pub fn damage(random: &mut Random, links: &mut Vec<Link>, tables: &mut Tables) -> String {
@@ -56,6 +59,73 @@ pub fn damage(random: &mut Random, links: &mut Vec<Link>, tables: &mut Tables) -
             };
             links.resize(length, links[0]);
             format!("{length} links")
+        }
+    }
+}
+
+/// Tables of a desk with one change in its clock or its bookings that mostly breaks a rule, and what was changed. Events
+/// and free figures follow the change, so that only the rule itself can tell; an oversold figure is wrapped around or 0.
+pub fn forged(random: &mut Random, desk: &Desk) -> (Tables, &'static str) {
+    let mut desk = desk.clone();
+    let what = forge(random, &mut desk);
+    let wraps = random.once_in(2);
+    (written(&desk, |residual| if wraps { residual as u32 } else { residual.max(0) as u32 }), what)
+}
+
+fn forge(random: &mut Random, desk: &mut Desk) -> &'static str {
+    if desk.bookings.is_empty() {
+        desk.clock = MAX_MINUTE + 1;
+        return "a clock behind the last minute";
+    }
+    let place = random.below(desk.bookings.len() as u64) as usize;
+    let another = pick(random, &desk.bookings).number;
+    let full = desk.bookings.len() == BOOKINGS;
+    let booking = &mut desk.bookings[place];
+    let last = desk.links[booking.path[booking.path.len() - 1] as usize];
+    match random.below(11) {
+        0 | 1 => {
+            let capacity = desk.links[booking.path[0] as usize].capacity;
+            booking.bandwidth = (capacity + random.below(2) as u32).min(MAX_BANDWIDTH);
+            "all bandwidth of a link, or more"
+        }
+        2 if !full => {
+            let mut twin = booking.clone();
+            twin.number = random.within(1, MAX_NUMBER as u64) as u32;
+            desk.bookings.push(twin);
+            "a booking under a second number"
+        }
+        3 => {
+            desk.clock = booking.end().min(MAX_MINUTE);
+            "a booking that has ended"
+        }
+        4 => {
+            booking.number = *pick(random, &[0, MAX_NUMBER + 1, another]);
+            "a number out of range or of another booking"
+        }
+        5 => {
+            booking.path.reverse();
+            "a path from its end"
+        }
+        6 if booking.path.len() < PATH_LINKS => {
+            let back = desk.links.iter().position(|link| link.from == last.to).unwrap_or(0);
+            booking.path.push(back as u32);
+            "a path that goes on"
+        }
+        7 => {
+            booking.start = MAX_MINUTE + random.below(2) as u32;
+            "a start at or behind the last minute"
+        }
+        8 => {
+            booking.duration = *pick(random, &[0, MAX_DURATION, MAX_DURATION + 1]);
+            "the longest duration, more or none"
+        }
+        9 => {
+            booking.bandwidth = 0;
+            "no bandwidth"
+        }
+        _ => {
+            booking.path.clear();
+            "no link"
         }
     }
 }

@@ -26,12 +26,17 @@ impl Tables {
 
 /// The tables of a desk. No link may be oversold.
 pub fn of(desk: &Desk) -> Tables {
+    written(desk, |residual| u32::try_from(residual).expect("no link is oversold"))
+}
+
+/// The tables of a desk, whose book may break a rule, with a free figure for each residual bandwidth.
+pub fn written(desk: &Desk, figure: impl Fn(i64) -> u32) -> Tables {
     let mut tables = Tables::filled_with(0);
     tables.head = Head { clock: desk.clock, links: desk.links.len() as u32, bookings: desk.bookings.len() as u32 };
     for (row, minute) in desk.events().into_iter().enumerate() {
         tables.events[row] = minute;
-        for (link, figure) in desk.residuals(minute).into_iter().enumerate() {
-            tables.free[row * ROW + link] = u32::try_from(figure).expect("no link is oversold");
+        for (link, residual) in desk.residuals(minute).into_iter().enumerate() {
+            tables.free[row * ROW + link] = figure(residual);
         }
     }
     let mut bookings: Vec<&Booking> = desk.bookings.iter().collect();

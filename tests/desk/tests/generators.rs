@@ -1,6 +1,6 @@
 //! What the generated sessions, histories and damages contain, and that the tables of a history are sound.
 
-use desk_tests::damages::damage;
+use desk_tests::damages::{damage, forged};
 use desk_tests::lines::{answer, line, opening, output, read_order};
 use desk_tests::plain::{Answer, Booking, Call, Desk};
 use desk_tests::sessions::{fullest, session, History};
@@ -248,6 +248,32 @@ fn damages_are_of_every_kind() {
     }
     println!("{sizes} refused 1, {unsound} refused 3, {sound} sound");
     assert!(sizes > 500 && unsound > 10_000 && sound > 20, "{sizes}, {unsound}, {sound}");
+}
+
+/// Of forged tables about one in four is sound. The others are refused 3, some for nothing but an oversold link.
+#[test]
+fn forged_tables_are_of_every_kind() {
+    let mut kinds = std::collections::BTreeMap::new();
+    for seed in SEED..SEED + 200 {
+        let mut history = History::new(seed);
+        (0..60).for_each(|_| {
+            history.step();
+        });
+        let mut random = Random::new(seed);
+        for _ in 0..50 {
+            let (tables, what) = forged(&mut random, &history.desk);
+            let (sound, unsound) = kinds.entry(what).or_insert((0, 0));
+            match tables::read(&history.desk.links, &tables) {
+                Ok(_) => *sound += 1,
+                Err(refusal) => {
+                    assert_eq!(refusal, 3, "seed {seed:#x}: {what}");
+                    *unsound += 1;
+                }
+            }
+        }
+    }
+    println!("sound and unsound: {kinds:#?}");
+    assert!(kinds.values().all(|&(_, unsound)| unsound >= 50), "{kinds:?}");
 }
 
 /// Books that break one rule each, with head, events and free figures made to agree wherever there are such.
