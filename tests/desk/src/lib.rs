@@ -4,6 +4,7 @@
 pub mod calls;
 pub mod cases;
 pub mod damages;
+pub mod exported;
 pub mod lines;
 pub mod plain;
 pub mod sessions;

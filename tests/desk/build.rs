@@ -1,0 +1,5 @@
+include!("../support/archive.rs");
+
+fn main() {
+    link_archive("desk");
+}
