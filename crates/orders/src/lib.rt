@@ -1,0 +1,201 @@
+// One order's bytes and a desk's tables to the order's answer and its line, and the first bytes of a session to its desk.
+// The program `run_orders` calls `run_order` and `open_desk`, and decides nothing itself. Every input is answered; an
+// order that is refused changes nothing.
+use desk_core::LinkTable;
+use desk_core::cancel;
+use desk_core::move_clock;
+use desk_core::offer;
+use desk_core::reserve;
+use path_search::Path;
+use record::Order;
+use record::OrderRead;
+use record::Wish;
+use record::read_order;
+use record::request_of;
+use report::Report;
+use units::Head;
+use units::Minute;
+use units::PATH_LINKS;
+ghost use mathlib.Core.Path.{_≡_};
+ghost use mathlib.Core.List.{[]};
+ghost use Rattle.path_search.specs.Answer.{path-of};
+ghost use Rattle.record.specs.declared.Order.the-variants.{Book, Cancel, Clock, Offer};
+ghost use Rattle.desk_core.specs.LinkTables.{links-of};
+ghost use Rattle.desk_core.specs.Lent.{lent};
+ghost use Rattle.orders.specs.Ordered.{answered, ordered, handed};
+
+// The answer to an order: the head after it, what its line says, and the path beside it.
+pub struct Answered {
+    pub head: Head,
+    pub report: Report,
+    pub path: Path,
+}
+
+// The path of a line that shows none.
+fn no_path() -> Path
+    ensures { λ r. ⌜ r ≡ path-of [] ⌝ }
+{
+    Path {
+        count: 0,
+        links: [0; PATH_LINKS],
+    }
+}
+
+// Books what an order wishes.
+fn answer_booking(
+    head: Head,
+    links: LinkTable,
+    events: &mut [u32],
+    free: &mut [u32],
+    book: &mut [u32],
+    number: u32,
+    wish: Wish,
+) -> Answered
+    ensures { λ r. ⌜ handed r (now (events .exit)) (now (free .exit)) (now (book .exit)) ≡ answered (links-of links) (lent head (now (events .entry)) (now (free .entry)) (now (book .entry))) (Book number wish) ⌝ }
+{
+    let request = request_of(wish);
+    let outcome = reserve(head, links, events, free, book, number, request);
+    let after = outcome.head;
+    let answer = outcome.answer;
+    let path = answer.path;
+    let start = answer.start;
+    let refusal = answer.refusal;
+    if refusal != 0 {
+        return Answered {
+            head: after,
+            report: Report::Refused(refusal),
+            path,
+        };
+    }
+    Answered {
+        head: after,
+        report: Report::Booked(number, start),
+        path,
+    }
+}
+
+// Offers what an order wishes. The tables stay.
+fn answer_offer(
+    head: Head,
+    links: LinkTable,
+    events: &[u32],
+    free: &[u32],
+    book: &[u32],
+    wish: Wish,
+) -> Answered
+    ensures { λ r. ⌜ handed r (now (events .entry)) (now (free .entry)) (now (book .entry)) ≡ answered (links-of links) (lent head (now (events .entry)) (now (free .entry)) (now (book .entry))) (Offer wish) ⌝ }
+{
+    let request = request_of(wish);
+    let answer = offer(head, links, events, free, book, request);
+    let path = answer.path;
+    let start = answer.start;
+    let refusal = answer.refusal;
+    if refusal != 0 {
+        return Answered {
+            head,
+            report: Report::Refused(refusal),
+            path,
+        };
+    }
+    Answered {
+        head,
+        report: Report::Offered(start),
+        path,
+    }
+}
+
+// Cancels the booking of a number.
+fn answer_cancel(
+    head: Head,
+    links: LinkTable,
+    events: &mut [u32],
+    free: &mut [u32],
+    book: &mut [u32],
+    number: u32,
+) -> Answered
+    ensures { λ r. ⌜ handed r (now (events .exit)) (now (free .exit)) (now (book .exit)) ≡ answered (links-of links) (lent head (now (events .entry)) (now (free .entry)) (now (book .entry))) (Cancel number) ⌝ }
+{
+    let outcome = cancel(head, links, events, free, book, number);
+    let after = outcome.head;
+    let refusal = outcome.refusal;
+    if refusal != 0 {
+        return Answered {
+            head: after,
+            report: Report::Refused(refusal),
+            path: no_path(),
+        };
+    }
+    Answered {
+        head: after,
+        report: Report::Cancelled(number),
+        path: no_path(),
+    }
+}
+
+// Moves the clock to a minute.
+fn answer_clock(
+    head: Head,
+    links: LinkTable,
+    events: &mut [u32],
+    free: &mut [u32],
+    book: &mut [u32],
+    minute: Minute,
+) -> Answered
+    ensures { λ r. ⌜ handed r (now (events .exit)) (now (free .exit)) (now (book .exit)) ≡ answered (links-of links) (lent head (now (events .entry)) (now (free .entry)) (now (book .entry))) (Clock minute) ⌝ }
+{
+    let outcome = move_clock(head, links, events, free, book, minute);
+    let after = outcome.head;
+    let refusal = outcome.refusal;
+    if refusal != 0 {
+        return Answered {
+            head: after,
+            report: Report::Refused(refusal),
+            path: no_path(),
+        };
+    }
+    Answered {
+        head: after,
+        report: Report::Clock(minute),
+        path: no_path(),
+    }
+}
+
+// The call that an order names.
+fn answer_read(
+    head: Head,
+    links: LinkTable,
+    events: &mut [u32],
+    free: &mut [u32],
+    book: &mut [u32],
+    order: Order,
+) -> Answered
+    ensures { λ r. ⌜ handed r (now (events .exit)) (now (free .exit)) (now (book .exit)) ≡ answered (links-of links) (lent head (now (events .entry)) (now (free .entry)) (now (book .entry))) (order) ⌝ }
+{
+    match order {
+        Order::Book(number, wish) => answer_booking(head, links, events, free, book, number, wish),
+        Order::Cancel(number) => answer_cancel(head, links, events, free, book, number),
+        Order::Clock(minute) => answer_clock(head, links, events, free, book, minute),
+        Order::Offer(wish) => answer_offer(head, links, events, free, book, wish),
+    }
+}
+
+// Answers any bytes as an order: 12 and 11 where they cannot be read, else what the call that the order names answers.
+pub fn answer_order(
+    bytes: &[u8],
+    head: Head,
+    links: LinkTable,
+    events: &mut [u32],
+    free: &mut [u32],
+    book: &mut [u32],
+) -> Answered
+    ensures { λ r. ⌜ handed r (now (events .exit)) (now (free .exit)) (now (book .exit)) ≡ ordered (links-of links) (lent head (now (events .entry)) (now (free .entry)) (now (book .entry))) (now (bytes .entry)) ⌝ }
+{
+    match read_order(bytes) {
+        OrderRead::Read(order) => answer_read(head, links, events, free, book, order),
+        OrderRead::Refused(number) => Answered {
+            head,
+            report: Report::Refused(number),
+            path: no_path(),
+        },
+    }
+}
