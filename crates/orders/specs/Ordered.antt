@@ -2,6 +2,7 @@
 use mathlib.Core.List.{List, []}
 use Prim.Native.Nat.{ℕ}
 use lib.Dec.{eqb}
+use lib.ListN.{take}
 use Rattle.units.specs.declared.Link.{Link}
 use Rattle.path_search.specs.declared.Path.{Path}
 use Rattle.path_search.specs.Answer.{path-of}
@@ -13,6 +14,7 @@ use Rattle.record.specs.Records.{if-passed, order-read}
 use Rattle.record.specs.Values.{request-of}
 use Rattle.report.specs.declared.Report.{Report}
 use Rattle.report.specs.declared.Report.the-variants as reports
+use Rattle.report.specs.Line.{line}
 use Rattle.desk_core.specs.Calls.{Ask, Call, ask, Answer, Values, values}
 use Rattle.desk_core.specs.Tables.{Tables, Outcome, outcome}
 use Rattle.desk_core.specs.Lent.{lent}
@@ -68,3 +70,7 @@ ordered links t bytes = by-reading links t (order-read bytes)
 -- the answer to an order and the tables, as they are handed back
 abbrev pub handed : Answered → List ℕ → List ℕ → List ℕ → Ordered
 handed r events free places = record { report = r .report; path = r .path; tables = lent (r .head) events free places }
+
+-- document 01's line of an order at its place: the path's links in travel order
+abbrev pub line-of : ℕ → Ordered → List ℕ
+line-of place o = line place (o .report) (take (o .path .count) (o .path .links))

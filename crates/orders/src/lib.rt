@@ -13,22 +13,33 @@ use record::Wish;
 use record::read_order;
 use record::request_of;
 use report::Report;
+use report::write_line;
 use units::Head;
 use units::Minute;
 use units::PATH_LINKS;
 ghost use mathlib.Core.Path.{_≡_};
 ghost use mathlib.Core.List.{[]};
+ghost use Prim.Native.Nat.{_+_, _≤_};
+ghost use lib.ListN.{length};
 ghost use Rattle.path_search.specs.Answer.{path-of};
 ghost use Rattle.record.specs.declared.Order.the-variants.{Book, Cancel, Clock, Offer};
 ghost use Rattle.desk_core.specs.LinkTables.{links-of};
 ghost use Rattle.desk_core.specs.Lent.{lent};
-ghost use Rattle.orders.specs.Ordered.{answered, ordered, handed};
+ghost use Rattle.report.specs.Line.{max-line};
+ghost use Rattle.report.specs.Written.{Wrote};
+ghost use Rattle.orders.specs.Ordered.{answered, ordered, handed, line-of};
 
 // The answer to an order: the head after it, what its line says, and the path beside it.
 pub struct Answered {
     pub head: Head,
     pub report: Report,
     pub path: Path,
+}
+
+// An order's line: the head after the order, and the index behind the line.
+pub struct Line {
+    pub head: Head,
+    pub next: usize,
 }
 
 // The path of a line that shows none.
@@ -198,4 +209,30 @@ pub fn answer_order(
             path: no_path(),
         },
     }
+}
+
+// Answers any bytes as an order and writes its line from index `at` on.
+pub fn run_order(
+    bytes: &[u8],
+    head: Head,
+    links: LinkTable,
+    events: &mut [u32],
+    free: &mut [u32],
+    book: &mut [u32],
+    out: &mut [u8],
+    at: usize,
+    place: u64,
+) -> Line
+    requires { ⌜ at + max-line ≤ length (now out) ⌝ }
+    ensures { λ r. ⌜ lent (r .head) (now (events .exit)) (now (free .exit)) (now (book .exit)) ≡ ordered (links-of links) (lent head (now (events .entry)) (now (free .entry)) (now (book .entry))) (now (bytes .entry)) .tables ⌝ }
+    ensures { λ r. ⌜ Wrote (line-of place (ordered (links-of links) (lent head (now (events .entry)) (now (free .entry)) (now (book .entry))) (now (bytes .entry)))) (now (out .entry)) at (now (out .exit)) (r .next) ⌝ }
+    ensures { λ r. ⌜ r .next ≤ at + max-line ⌝ }
+{
+    let answer = answer_order(bytes, head, links, events, free, book);
+    let after = answer.head;
+    let report = answer.report;
+    let path = answer.path;
+    let hops = path.links;
+    let next = write_line(out, at, place, report, hops, path.count);
+    Line { head: after, next }
 }
