@@ -1,2 +1,4 @@
 pub mod Answering
 pub mod Short
+pub mod Columns
+pub mod Opening
