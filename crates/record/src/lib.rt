@@ -313,7 +313,7 @@ fn open_flag(latest: Latest) -> u32
 }
 
 // The request of a booking or an offer, its latest start a minute.
-fn request_of(w: Wish) -> Request
+pub fn request_of(w: Wish) -> Request
     ensures { λ r. ⌜ r ≡ request-of w ⌝ }
 {
     let bandwidth = w.bandwidth;

@@ -1,0 +1,71 @@
+-- An order's answer from what the contract of its call says: the number decides the report, and the tables are the outcome's.
+use mathlib.Core.Path.{_≡_, refl, sym, _∙_, ap}
+use mathlib.Core.List.{List, []}
+use Prim.Native.Nat.{ℕ}
+use borrow.Author.Tests.{eq-eqb, ne-eqb}
+use Rattle.units.specs.declared.Link.{Link}
+use Rattle.units.specs.declared.Head.{Head}
+use Rattle.units.specs.declared.Request.{Request}
+use Rattle.path_search.specs.declared.Path.{Path}
+use Rattle.path_search.specs.Answer.{path-of}
+use Rattle.choice.specs.declared.ChoiceRecord.{ChoiceRecord}
+use Rattle.record.specs.declared.Order.{Order}
+use Rattle.record.specs.declared.OrderRead.{OrderRead}
+use Rattle.record.specs.declared.OrderRead.the-variants as reads
+use Rattle.record.specs.Records.{if-passed}
+use Rattle.report.specs.declared.Report.{Report}
+use Rattle.report.specs.declared.Report.the-variants as reports
+use Rattle.desk_core.specs.Calls.{Ask, Call, ask, Values, values}
+use Rattle.desk_core.specs.Tables.{Tables, outcome}
+use Rattle.desk_core.specs.Lent.{lent, granted-answer, refusal-answer, head-after, events-after, free-after, book-after}
+use Rattle.orders.specs.Ordered.{call-of, accepted, reported, path-shown, answered, by-reading, handed}
+
+module _ (links : List Link) (t : Tables) where
+  -- the tables that a call hands back, as its contract puts them
+  abbrev pub Back : Call → Head → List ℕ → List ℕ → List ℕ → Type 0
+  Back c head events free places = (head ≡ head-after links t c) × (events ≡ events-after links t c) × (free ≡ free-after links t c) × (places ≡ book-after links t c)
+
+  -- an offer's are the ones that were lent
+  pub offer-keeps : (r : Request) → Back (ask (Ask.offer r)) (t .head) (t .events) (t .free) (t .book)
+  unfolding head-after events-after free-after book-after outcome
+  offer-keeps r = (refl, refl, refl, refl)
+
+  -- an order that cannot be read keeps them too
+  pub unread : {number : ℕ} {path : Path} {read : OrderRead} → path ≡ path-of [] → read ≡ reads.Refused number
+      → handed (record { head = t .head; report = reports.Refused number; path = path }) (t .events) (t .free) (t .book) ≡ by-reading links t read
+  unread {number} p e = ap (λ x. record { report = reports.Refused number; path = x; tables = t }) p ∙ sym (ap (by-reading links t) e)
+
+  module _ (c : Call) where
+    abbrev pub said : Values
+    said = values (outcome links t c .answer)
+
+    pub number-is : {k : ℕ} → k ≡ refusal-answer links t c → k ≡ said .number
+    unfolding refusal-answer
+    number-is e = e
+
+    -- the values of an answer that carries a start
+    pub record Carried (a : ChoiceRecord) : Type 0 where
+      pub number-same : a .refusal ≡ said .number
+      pub start-same : a .start ≡ record { 0 = said .start }
+      pub path-same : a .path ≡ record { count = said .count; links = said .path }
+
+    pub carried : {a : ChoiceRecord} → a ≡ granted-answer links t c → Carried a
+    unfolding granted-answer
+    carried e = record { number-same = ap (λ x. x .refusal) e; start-same = ap (λ x. x .start) e; path-same = ap (λ x. x .path) e }
+
+  module _ (order : Order) {head : Head} {path : Path} {events free places : List ℕ} where
+    given : {report : Report} → report ≡ reported order (said (call-of order)) → path ≡ path-shown order (said (call-of order)) → Back (call-of order) head events free places
+        → handed (record { head = head; report = report; path = path }) events free places ≡ answered links t order
+    unfolding answered head-after events-after free-after book-after
+    given r p b = λ i. record { report = r i; path = p i; tables = record { head = b .0 i; events = b .1 i; free = b .2 i; book = b .3 i } }
+
+    -- a number that is not 0 is that of a refusal
+    pub refused : {k : ℕ} → k ≡ said (call-of order) .number → (k ≡ 0 → ⊥) → path ≡ path-shown order (said (call-of order)) → Back (call-of order) head events free places
+        → handed (record { head = head; report = reports.Refused k; path = path }) events free places ≡ answered links t order
+    refused {k} e ne p b =
+        given (ap reports.Refused e ∙ ap (λ x. if-passed x (accepted order (said (call-of order))) (reports.Refused (said (call-of order) .number))) (sym (ne-eqb (said (call-of order) .number) 0 (λ z. ne (e ∙ z))))) p b
+
+    -- 0 is that of an accepted call
+    pub done : {k : ℕ} {report : Report} → k ≡ said (call-of order) .number → k ≡ 0 → report ≡ accepted order (said (call-of order)) → path ≡ path-shown order (said (call-of order))
+        → Back (call-of order) head events free places → handed (record { head = head; report = report; path = path }) events free places ≡ answered links t order
+    done e z r p b = given (r ∙ ap (λ x. if-passed x (accepted order (said (call-of order))) (reports.Refused (said (call-of order) .number))) (sym (eq-eqb (said (call-of order) .number) 0 (sym e ∙ z)))) p b

@@ -1,0 +1,4 @@
+pub mod Answering
+pub mod Short
+pub mod Columns
+pub mod Opening

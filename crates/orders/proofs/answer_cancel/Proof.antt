@@ -1,0 +1,68 @@
+-- `answer_cancel` meets its contract: the number that `cancel` answers decides the report.
+use mathlib.Core.Path.{_≡_, refl, sym, _∙_, ap, subst}
+use denote.Ref.{now}
+use Rattle.desk_core.specs.LinkTables.{links-of}
+use Rattle.desk_core.specs.Lent.{lent}
+use Rattle.record.specs.declared.Order.the-variants.{Book, Cancel, Clock, Offer}
+use Rattle.orders.specs.Ordered.{call-of}
+use Rattle.orders.proofs.Answering.{number-is, refused, done}
+use borrow.Author.Needs.{needs}
+use Rattle.orders.proofs.answer_cancel.Statement.{statement}
+use Rattle.orders.proofs.answer_cancel.Tie as tie
+
+cancel-requires : tie.Need-cancel-requires
+cancel-requires c κs = search needs
+
+no-path-requires : tie.Need-no-path-requires
+no-path-requires c κs = search needs
+
+same-length : tie.Need-same-length
+same-length c = search needs
+
+same-length-2 : tie.Need-same-length-2
+same-length-2 c = search needs
+
+same-length-3 : tie.Need-same-length-3
+same-length-3 c = search needs
+
+returns : tie.Need-returns
+returns c = let a = c .before .before .before .before .before .before .before .before .before .before .before .before .before .before .before .before .args in
+    let l = links-of (a .links) in
+    let t = lent (a .head) (now (a .events)) (now (a .free)) (now (a .book)) in
+    let r = c .before .before .before .before .before .before .before .before .before .cancel .ensures in
+    refused l t (Cancel (a .number)) (number-is l t (call-of (Cancel (a .number))) (r .0)) (c .before .if1 .taken) (c .no-path .ensures) (r .1, r .2, r .3, r .4)
+
+no-path-requires-2 : tie.Need-no-path-requires-2
+no-path-requires-2 c κs = search needs
+
+same-length-4 : tie.Need-same-length-4
+same-length-4 c = search needs
+
+same-length-5 : tie.Need-same-length-5
+same-length-5 c = search needs
+
+same-length-6 : tie.Need-same-length-6
+same-length-6 c = search needs
+
+returns-2 : tie.Need-returns-2
+returns-2 c = let a = c .before .before .before .before .before .before .before .before .before .before .before .before .before .before .before .before .args in
+    let l = links-of (a .links) in
+    let t = lent (a .head) (now (a .events)) (now (a .free)) (now (a .book)) in
+    let r = c .before .before .before .before .before .before .before .before .before .cancel .ensures in
+    done l t (Cancel (a .number)) (number-is l t (call-of (Cancel (a .number))) (r .0)) (c .before .if1 .left) refl (c .no-path2 .ensures) (r .1, r .2, r .3, r .4)
+
+pub answer-cancel-spec : {M : Type 1} → statement M
+answer-cancel-spec =
+    tie.close
+    (tie.spec
+    cancel-requires
+    no-path-requires
+    same-length
+    same-length-2
+    same-length-3
+    returns
+    no-path-requires-2
+    same-length-4
+    same-length-5
+    same-length-6
+    returns-2)
