@@ -13,12 +13,12 @@ use lib.ListN.{length, getD, set, take, replicate}
 use lib.Seq.{take-length, ext-getD}
 use Rattle.units.specs.Limits.{most-links}
 use Rattle.units.specs.declared.Link.{Link}
-use Rattle.desk_core.specs.declared.LinkTable.{LinkTable}
+use Rattle.units.specs.declared.LinkTable.{LinkTable}
 use Rattle.desk_core.specs.Plain.{no-link, link}
 use Rattle.desk_core.specs.Calls.{Call, values}
 use Rattle.desk_core.specs.Tables.{Tables, outcome, sized}
 use Rattle.desk_core.specs.Lent.{granted, shown, granted-answer, shown-answer, refusal-answer, head-after, events-after, free-after, book-after}
-use Rattle.desk_core.specs.LinkTables.{link-at, links-of, column, columns, table-of, empty-table, with-link, at-most-64}
+use Rattle.units.specs.LinkTables.{link-at, links-of, column, columns, table-of, empty-table, with-link, at-most-64}
 use Rattle.desk_core.proofs.LinkColumns.{links-count, link-column}
 use Rattle.desk_core.proofs.Exits.{unsized}
 

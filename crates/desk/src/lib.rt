@@ -3,28 +3,28 @@
 // columns and hands it to its core in `desk_core`; nothing is decided here. Every call is answered for every input.
 // `tools/walkgen.py desk` prints the proofs.
 use choice::ChoiceRecord;
-use desk_core::LinkTable;
 use desk_core::Shown;
-use desk_core::at_most_64;
 use desk_core::cancel;
-use desk_core::empty_table;
 use desk_core::move_clock;
 use desk_core::offer;
-use desk_core::put;
 use desk_core::reserve;
 use desk_core::set_up;
 use desk_core::show;
 use units::Head;
 use units::Link;
 use units::LinkNumber;
+use units::LinkTable;
 use units::Minute;
 use units::Request;
+use units::at_most_64;
+use units::empty_table;
+use units::put;
 ghost use mathlib.Core.Path.{_≡_};
 ghost use Prim.Native.Nat.{_<_};
 ghost use lib.ListN.{length, getD};
 ghost use Rattle.desk_core.specs.Plain.{no-link};
 ghost use Rattle.desk_core.specs.Calls.{Ask, set-up, ask};
-ghost use Rattle.desk_core.specs.LinkTables.{table-of};
+ghost use Rattle.units.specs.LinkTables.{table-of};
 ghost use Rattle.desk_core.specs.Lent.{lent, granted-answer, shown-answer, refusal-answer, head-after, events-after, free-after, book-after};
 
 // Link `i` of the list.

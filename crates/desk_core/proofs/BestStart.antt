@@ -25,12 +25,13 @@ use Rattle.choice.specs.Choice.{Grant, Choice, granted, no-start, choose}
 use Rattle.choice.specs.Answer.{Askable}
 use Rattle.choice.specs.Answer as answers
 use Rattle.choice.proofs.Figures.{choose-agree, carries-shown}
-use Rattle.desk_core.specs.declared.LinkTable.{LinkTable}
+use Rattle.units.specs.declared.LinkTable.{LinkTable}
 use Rattle.desk_core.specs.Plain.{Booking, Plain, terms, graph, free, carries, low}
 use Rattle.desk_core.specs.Calls.{Ask, starts, refuse, best, stands, number-ok, request-ok, own-checks}
 use Rattle.desk_core.specs.Calls.{chosen as desk-chosen}
 use Rattle.desk_core.specs.Tables.{Tables, held, tables, event-table, free-table}
-use Rattle.desk_core.specs.LinkTables.{links-of, ends-of}
+use Rattle.units.specs.LinkTables.{links-of}
+use Rattle.desk_core.specs.Lent.{ends-of}
 use Rattle.desk_core.specs.Sound.{Obeys}
 use Rattle.desk_core.specs.Updating.{Fine, booked, Grantable}
 use Rattle.desk_core.proofs.Checks.{Passed}

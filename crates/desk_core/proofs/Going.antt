@@ -13,9 +13,9 @@ use Rattle.units.specs.Limits.{last-node, most-hops}
 use Rattle.units.specs.Lists.{member}
 use Rattle.units.proofs.Tests.{Order, less, same, more, order}
 use Rattle.path_search.specs.Paths.{Graph, goes-on, first-node, path-ok}
-use Rattle.desk_core.specs.declared.LinkTable.{LinkTable}
+use Rattle.units.specs.declared.LinkTable.{LinkTable}
 use Rattle.desk_core.specs.Plain.{link, graph}
-use Rattle.desk_core.specs.LinkTables.{links-of}
+use Rattle.units.specs.LinkTables.{links-of}
 use Rattle.desk_core.specs.Checking.{LinksRight}
 use Rattle.desk_core.proofs.Tests.{links-tell, nodes-below}
 use Rattle.desk_core.proofs.LinkColumns.{links-count, from-column, to-column}

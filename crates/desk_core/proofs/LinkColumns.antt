@@ -10,10 +10,10 @@ use denote.Struct.Declared.{row}
 use Rattle.units.specs.Limits.{most-links}
 use Rattle.units.specs.Lists.{count-from}
 use Rattle.units.proofs.Padded.{length-count}
-use Rattle.desk_core.specs.declared.LinkTable.{LinkTable}
-use Rattle.desk_core.proofs.LinkTable.{the-type}
+use Rattle.units.specs.declared.LinkTable.{LinkTable}
+use Rattle.units.proofs.LinkTable.{the-type}
 use Rattle.desk_core.specs.Plain.{no-link, link, capacity, graph}
-use Rattle.desk_core.specs.LinkTables.{link-at, links-of}
+use Rattle.units.specs.LinkTables.{link-at, links-of}
 
 counted-at : {A : Type 0} (f : ℕ → A) (d : A) (i n j : ℕ) → j < n → getD (map f (count-from i n)) j d ≡ f (i + j)
 unfolding count-from

@@ -18,12 +18,12 @@ use Rattle.free_table.proofs.Figures.{length-table}
 use Rattle.free_table.proofs.Tables.{all-free-table}
 use Rattle.book.specs.declared.Booking.{Booking as Place}
 use Rattle.book.specs.Places.{booking-in}
-use Rattle.desk_core.specs.declared.LinkTable.{LinkTable}
+use Rattle.units.specs.declared.LinkTable.{LinkTable}
 use Rattle.desk_core.specs.Plain.{Plain, until, capacity, free}
 use Rattle.desk_core.specs.Calls.{put-in}
 use Rattle.desk_core.specs.Tables.{events-of, event-table, free-table, booking-of, booking-at, plain-in}
 use Rattle.desk_core.specs.Sound.{BookingRight}
-use Rattle.desk_core.specs.LinkTables.{links-of}
+use Rattle.units.specs.LinkTables.{links-of}
 use Rattle.desk_core.specs.Rebuilding.{PlaceRight, TablesSized, NotOversold, CanRebuild}
 use Rattle.desk_core.proofs.Obeys.{right-in}
 use Rattle.desk_core.proofs.LinkColumns.{links-count, capacity-column}

@@ -9,11 +9,11 @@ use Rattle.units.specs.Lists.{Within, All}
 use Rattle.units.proofs.Permuted.{length-permuted}
 use Rattle.units.proofs.Padded.{rows-at}
 use Rattle.book.specs.Places.{booking-in}
-use Rattle.desk_core.specs.declared.LinkTable.{LinkTable}
+use Rattle.units.specs.declared.LinkTable.{LinkTable}
 use Rattle.desk_core.specs.Plain.{Booking, Plain}
 use Rattle.desk_core.specs.Tables.{tables, place, by-number, plain-in, event-table, free-table, book-table}
 use Rattle.desk_core.specs.Sound.{BookingRight, Obeys}
-use Rattle.desk_core.specs.LinkTables.{links-of}
+use Rattle.units.specs.LinkTables.{links-of}
 use Rattle.desk_core.specs.Rebuilding.{CanRebuild}
 use Rattle.desk_core.proofs.Book.{by-number-is, Short, place-rows}
 use Rattle.desk_core.proofs.Tests.{sized-tells}

@@ -11,10 +11,10 @@ use Rattle.units.specs.declared.Head.{Head}
 use Rattle.units.specs.Limits.{most-links, most-bookings, most-events, place-size}
 use Rattle.units.specs.Lists.{within}
 use Rattle.units.proofs.Tests.{_&_, in-range, equals}
-use Rattle.desk_core.specs.declared.LinkTable.{LinkTable}
+use Rattle.units.specs.declared.LinkTable.{LinkTable}
 use Rattle.desk_core.specs.Calls.{Ask, ask, checked}
 use Rattle.desk_core.specs.Tables.{Tables, sizes-ok, sized, sound, tables-refusal, outcome}
-use Rattle.desk_core.specs.LinkTables.{links-of}
+use Rattle.units.specs.LinkTables.{links-of}
 use Rattle.desk_core.specs.Lent.{lent}
 use Rattle.desk_core.specs.Updating.{Fine}
 use Rattle.desk_core.proofs.Tests.{sized-tells}

@@ -18,12 +18,12 @@ use Rattle.free_table.specs.Figures.{all-free}
 use Rattle.path_search.specs.declared.Path.{Path}
 use Rattle.book.specs.declared.Booking.{Booking as Place}
 use Rattle.book.specs.Places.{figures, slot, with-booking}
-use Rattle.desk_core.specs.declared.LinkTable.{LinkTable}
+use Rattle.units.specs.declared.LinkTable.{LinkTable}
 use Rattle.desk_core.specs.Plain.{Plain, empty}
 use Rattle.desk_core.specs.Calls.{put-in}
 use Rattle.desk_core.specs.Tables.{Tables, tables, held, place, by-number, head-of, plain-in, event-table, free-table, book-table}
 use Rattle.desk_core.specs.Sound.{Obeys}
-use Rattle.desk_core.specs.LinkTables.{links-of}
+use Rattle.units.specs.LinkTables.{links-of}
 use Rattle.desk_core.specs.Lent.{lent}
 use Rattle.desk_core.specs.Rebuilding.{PlaceRight, CanRebuild}
 use Rattle.desk_core.specs.Updating.{Fine, booked, Grantable}

@@ -9,11 +9,11 @@ use Rattle.units.specs.declared.Link.{Link}
 use Rattle.units.specs.Limits.{most-links, most-hops, most-bookings, place-size}
 use Rattle.units.specs.Lists.{equal, rising, all}
 use Rattle.book.specs.declared.Booking.{Booking as Place}
-use Rattle.desk_core.specs.declared.LinkTable.{LinkTable}
+use Rattle.units.specs.declared.LinkTable.{LinkTable}
 use Rattle.desk_core.specs.Plain.{Plain}
 use Rattle.desk_core.specs.Calls.{numbers}
 use Rattle.desk_core.specs.Tables.{links-ok, booking-ok, book-table, event-table, free-table}
-use Rattle.desk_core.specs.LinkTables.{links-of}
+use Rattle.units.specs.LinkTables.{links-of}
 use Rattle.desk_core.specs.Rebuilding.{NotOversold}
 
 -- a plain book of that clock

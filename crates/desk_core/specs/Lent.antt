@@ -3,6 +3,8 @@ use mathlib.Core.List.{List}
 use Prim.Native.Nat.{ℕ}
 use Rattle.units.specs.declared.Link.{Link}
 use Rattle.units.specs.declared.Head.{Head}
+use Rattle.units.specs.declared.LinkTable.{LinkTable}
+use Rattle.path_search.specs.declared.LinkEnds.{LinkEnds}
 use Rattle.choice.specs.declared.ChoiceRecord.{ChoiceRecord}
 use Rattle.desk_core.specs.declared.Shown.{Shown}
 use Rattle.desk_core.specs.Calls.{Call, Answer, values}
@@ -11,6 +13,10 @@ use Rattle.desk_core.specs.Tables.{Tables, outcome}
 -- the tables as they are lent
 abbrev pub lent : Head → List ℕ → List ℕ → List ℕ → Tables
 lent head events free places = record { head = head; events = events; free = free; book = places }
+
+-- the ends of the links alone, as the path search takes them
+abbrev pub ends-of : LinkTable → LinkEnds
+ends-of t = record { count = t .count; from = t .from; to = t .to }
 
 -- an answer's number and values, for a booking or an offer, and for a showing
 abbrev pub granted : Answer → ChoiceRecord

@@ -11,10 +11,10 @@ use Rattle.free_table.specs.Taking.{less-span}
 use Rattle.free_table.specs.Looking.{enough-span}
 use Rattle.book.specs.declared.Booking.{Booking as Place}
 use Rattle.book.specs.Places.{release, booking-in}
-use Rattle.desk_core.specs.declared.LinkTable.{LinkTable}
+use Rattle.units.specs.declared.LinkTable.{LinkTable}
 use Rattle.desk_core.specs.Plain.{Plain, taken, capacity}
 use Rattle.desk_core.specs.Tables.{plain-in}
-use Rattle.desk_core.specs.LinkTables.{links-of}
+use Rattle.units.specs.LinkTables.{links-of}
 use Rattle.desk_core.specs.Sound.{BookingRight}
 
 -- the links of a place's path, and the minute at which it releases them

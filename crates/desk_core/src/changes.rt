@@ -1,6 +1,5 @@
 // What an accepted call writes: tables that are sound become those of the plain book after the call. Each function answers
 // the head after it. The calls ask first; nothing here refuses.
-use crate::LinkTable;
 use crate::rebuild::add_booking;
 use crate::rebuild::rebuild;
 use book::Booking;
@@ -12,6 +11,7 @@ use free_table::reset_free;
 use path_search::Path;
 use timeline::reset_events;
 use units::Head;
+use units::LinkTable;
 use units::Minute;
 use units::Request;
 use units::clear_from;
@@ -25,7 +25,7 @@ ghost use Rattle.desk_core.specs.Plain.{empty};
 ghost use Rattle.desk_core.specs.Calls.{take-out, move-to, put-in};
 ghost use Rattle.desk_core.specs.Tables.{held, sizes-ok, tables};
 ghost use lib.ListN.{length};
-ghost use Rattle.desk_core.specs.LinkTables.{links-of};
+ghost use Rattle.units.specs.LinkTables.{links-of};
 ghost use Rattle.desk_core.specs.Lent.{lent};
 ghost use Rattle.desk_core.specs.Updating.{Fine, booked, Grantable};
 

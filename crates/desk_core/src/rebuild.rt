@@ -1,6 +1,5 @@
 // The events and free figures of a clock and a book: one booking added to them, and all of them anew. Booking adds one;
 // cancelling, moving the clock and the soundness check go through all. Nothing here looks at whether a booking is right.
-use crate::LinkTable;
 use book::Booking;
 use book::booking_at;
 use book::release;
@@ -10,6 +9,7 @@ use free_table::take_bandwidth;
 use timeline::insert_span;
 use timeline::reset_events;
 use units::LinkNumber;
+use units::LinkTable;
 use units::Minute;
 ghost use mathlib.Core.Path.{_≡_};
 ghost use mathlib.Core.Bool.{true};
@@ -18,7 +18,7 @@ ghost use Prim.Native.Nat.{_≤_};
 ghost use Rattle.units.specs.Limits.{most-links, last-minute, longest};
 ghost use Rattle.timeline.specs.Insertion.{with-span, with-span-rows, Room};
 ghost use Rattle.desk_core.specs.Tables.{plain-in, event-table, free-table};
-ghost use Rattle.desk_core.specs.LinkTables.{links-of};
+ghost use Rattle.units.specs.LinkTables.{links-of};
 ghost use Rattle.desk_core.specs.Rebuilding.{path-of, release-of, less-path, enough-path, PlaceRight, TablesSized, NotOversold, CanRebuild};
 
 // The minute at which a booking releases its links.

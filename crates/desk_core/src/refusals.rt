@@ -1,6 +1,5 @@
 // The checks of the calls, in document 01's order: each function answers the number of the first check that a call does
 // not pass, or 0. Nothing here writes a table.
-use crate::LinkTable;
 use crate::soundness::sound;
 use book::Standing;
 use book::find;
@@ -11,6 +10,7 @@ use units::FREE_FIGURES;
 use units::Head;
 use units::LAST_NODE;
 use units::LINKS;
+use units::LinkTable;
 use units::MAX_BANDWIDTH;
 use units::MAX_DURATION;
 use units::MAX_MINUTE;
@@ -25,7 +25,7 @@ ghost use Rattle.units.specs.Limits.{place-size};
 ghost use Rattle.units.specs.Lists.{within};
 ghost use Rattle.desk_core.specs.Calls.{Ask, ends-ok, request-ok, first-refusal, own-checks};
 ghost use Rattle.desk_core.specs.Tables.{plain-in, sizes-ok, tables-refusal};
-ghost use Rattle.desk_core.specs.LinkTables.{links-of};
+ghost use Rattle.units.specs.LinkTables.{links-of};
 ghost use Rattle.desk_core.specs.Lent.{lent};
 
 // Refusal numbers.

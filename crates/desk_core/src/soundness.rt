@@ -1,6 +1,5 @@
 // Document 01's 'sound': links and book obey the rules, no link is oversold, and head, events and free figures are the
 // ones that links, clock and book give. Every call but the set-up asks this first. Nothing here writes a lent table.
-use crate::LinkTable;
 use crate::rebuild::rebuild;
 use crate::refusals::ends_ok;
 use crate::refusals::in_range;
@@ -11,6 +10,7 @@ use units::BOOKINGS;
 use units::EVENTS;
 use units::FREE_FIGURES;
 use units::Head;
+use units::LinkTable;
 use units::MAX_BANDWIDTH;
 use units::MAX_DURATION;
 use units::MAX_MINUTE;
@@ -27,7 +27,7 @@ ghost use Rattle.units.specs.Lists.{equal};
 ghost use Rattle.path_search.specs.Paths.{path-ok};
 ghost use Rattle.desk_core.specs.Plain.{graph};
 ghost use Rattle.desk_core.specs.Tables.{links-ok, booking-ok, booking-of, plain-in, sized, sound};
-ghost use Rattle.desk_core.specs.LinkTables.{links-of};
+ghost use Rattle.units.specs.LinkTables.{links-of};
 ghost use Rattle.desk_core.specs.Lent.{lent};
 ghost use Rattle.desk_core.specs.Rebuilding.{path-of, CanRebuild};
 ghost use Rattle.desk_core.specs.Checking.{at-clock, zeros-from, tidy, book-ok, FiguresRight, LinksRight, BookFits};

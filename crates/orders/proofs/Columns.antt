@@ -11,8 +11,8 @@ use lib.Seq.{getD-set-same, getD-set-other}
 use Rattle.units.specs.Limits.{most-links}
 use Rattle.units.specs.Lists.{count-from}
 use Rattle.units.proofs.Search.{firstFrom-first, firstFrom-nothing}
-use Rattle.desk_core.specs.declared.LinkTable.{LinkTable}
-use Rattle.desk_core.specs.LinkTables.{link-at, links-of}
+use Rattle.units.specs.declared.LinkTable.{LinkTable}
+use Rattle.units.specs.LinkTables.{link-at, links-of}
 use Rattle.orders.specs.Opened.{link-record, unreadable, refusal-of, links-refusal, links-in, with-link, blank}
 
 map-same : {A : Type 0} (f g : ℕ → A) (i n : ℕ) → ((j : ℕ) → i ≤ j → j < i + n → f j ≡ g j) → map f (count-from i n) ≡ map g (count-from i n)

@@ -11,10 +11,10 @@ use Rattle.units.specs.Limits.{most-links}
 use Rattle.units.specs.Lists.{count-from}
 use Rattle.record.specs.Layout.{link-bytes}
 use Rattle.record.specs.Records.{if-passed}
-use Rattle.desk_core.specs.declared.LinkTable.{LinkTable}
+use Rattle.units.specs.declared.LinkTable.{LinkTable}
 use Rattle.desk_core.specs.Calls.{set-up}
 use Rattle.desk_core.specs.Tables.{Tables, outcome}
-use Rattle.desk_core.specs.LinkTables.{links-of}
+use Rattle.units.specs.LinkTables.{links-of}
 use Rattle.desk_core.specs.Lent.{lent, refusal-answer, head-after, events-after, free-after, book-after}
 use Rattle.orders.specs.declared.LinksFound.{LinksFound}
 use Rattle.orders.specs.Opened.{links-refusal, links-in, first-byte, bytes-refusal, Opened, by-set-up, opened, desk-of, blank, Found}

@@ -15,10 +15,10 @@ use Rattle.record.specs.Records.{if-passed, link-read}
 use Rattle.record.specs.Values.{link-values}
 use Rattle.report.specs.declared.Report.{Report}
 use Rattle.report.specs.declared.Report.the-variants.{DeskLinks, DeskRefused}
-use Rattle.desk_core.specs.declared.LinkTable.{LinkTable}
+use Rattle.units.specs.declared.LinkTable.{LinkTable}
 use Rattle.desk_core.specs.Calls.{set-up, values}
 use Rattle.desk_core.specs.Tables.{Tables, Outcome, outcome}
-use Rattle.desk_core.specs.LinkTables.{links-of}
+use Rattle.units.specs.LinkTables.{links-of}
 use Rattle.desk_core.specs.Lent.{lent}
 use Rattle.orders.specs.declared.LinksFound.{LinksFound}
 use Rattle.orders.specs.declared.Opened.{Opened as OpenedDesk}

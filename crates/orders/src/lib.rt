@@ -1,7 +1,6 @@
 // One order's bytes and a desk's tables to the order's answer and its line, and the first bytes of a session to its desk.
 // The program `run_orders` calls `run_order` and `open_desk`, and decides nothing itself. Every input is answered; an
 // order that is refused changes nothing.
-use desk_core::LinkTable;
 use desk_core::cancel;
 use desk_core::move_clock;
 use desk_core::offer;
@@ -20,6 +19,7 @@ use report::write_line;
 use units::Head;
 use units::LINKS;
 use units::Link;
+use units::LinkTable;
 use units::Minute;
 use units::PATH_LINKS;
 ghost use mathlib.Core.Path.{_≡_};
@@ -29,7 +29,7 @@ ghost use lib.ListN.{length};
 ghost use Rattle.units.specs.Limits.{most-links};
 ghost use Rattle.path_search.specs.Answer.{path-of};
 ghost use Rattle.record.specs.declared.Order.the-variants.{Book, Cancel, Clock, Offer};
-ghost use Rattle.desk_core.specs.LinkTables.{links-of};
+ghost use Rattle.units.specs.LinkTables.{links-of};
 ghost use Rattle.desk_core.specs.Lent.{lent};
 ghost use Rattle.report.specs.Line.{line, max-line};
 ghost use Rattle.report.specs.Written.{Wrote};

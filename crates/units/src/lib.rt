@@ -1,9 +1,12 @@
 // The quantities of a reservation, each with a type of its own, the records that calls pass by value, and the limits
-// of document 01; and zeros for what a table does not use. Every crate uses them; nothing here decides anything.
+// of document 01; links as columns; and zeros for what a table does not use. Every crate uses them; nothing here decides
+// anything.
 ghost use mathlib.Core.Path.{_≡_};
 ghost use mathlib.Core.List.{_++_};
-ghost use Prim.Native.Nat.{_-_, _≤_};
+ghost use Prim.Native.Nat.{_-_, _≤_, _<_};
 ghost use lib.ListN.{length, take, replicate};
+ghost use Rattle.units.specs.Limits.{most-links};
+ghost use Rattle.units.specs.LinkTables.{empty-table, with-link, at-most-64};
 
 // The last node; nodes are numbered from 0.
 pub const LAST_NODE: u32 = 31;
@@ -87,6 +90,45 @@ pub struct Head {
     pub clock: Minute,
     pub links: u32,
     pub bookings: u32,
+}
+
+// The list of links by value: its true length, and a column for each field of the first 64 links, zero past the last.
+pub struct LinkTable {
+    pub count: usize,
+    pub from: [u32; LINKS],
+    pub to: [u32; LINKS],
+    pub capacity: [u32; LINKS],
+}
+
+// The columns before a link is put into them, beside the count of links.
+pub fn empty_table(count: usize) -> LinkTable
+    ensures { λ r. ⌜ r ≡ empty-table count ⌝ }
+{
+    LinkTable {
+        count,
+        from: [0; LINKS],
+        to: [0; LINKS],
+        capacity: [0; LINKS],
+    }
+}
+
+// The columns with a link at place `i`.
+pub fn put(table: LinkTable, i: usize, link: Link) -> LinkTable
+    requires { ⌜ i < most-links ⌝ }
+    ensures { λ r. ⌜ r ≡ with-link table i link ⌝ }
+{
+    let mut filled = table;
+    filled.from[i] = link.from;
+    filled.to[i] = link.to;
+    filled.capacity[i] = link.capacity.0;
+    filled
+}
+
+// How many of `n` links the columns have a place for.
+pub fn at_most_64(n: usize) -> usize
+    ensures { λ r. ⌜ r ≡ at-most-64 n ⌝ }
+{
+    if n < LINKS { n } else { LINKS }
 }
 
 // Zeros from place `from` on.

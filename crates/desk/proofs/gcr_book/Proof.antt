@@ -5,11 +5,11 @@ use Rattle.desk.proofs.Walk.{ !, AllGo, Are, Args, Atoms, Calls, FmC, F
 use Rattle.desk.proofs.Calls.{Of, calls-for, Token, Own, lends}
 use Rattle.desk.proofs.Wrap.{after, all-passed, all-passed-go, opened, closed, calls-on, landed, gone, leaves, restated}
 use denote.Struct.Laws as LL
-use Rattle.desk_core.specs.LinkTables.{table-of}
+use Rattle.units.specs.LinkTables.{table-of}
 use Rattle.desk.proofs.Laws.{book-after-same, events-after-same, free-after-same, granted-answer-same, head-after-same}
 use Rattle.units.specs.declared.Head.{Head}
 use Rattle.units.specs.declared.Link.{Link}
-use Rattle.desk_core.specs.declared.LinkTable.{LinkTable}
+use Rattle.units.specs.declared.LinkTable.{LinkTable}
 use Rattle.units.proofs.Head as T
 use Rattle.units.proofs.Head.Laws as T′
 use Rattle.desk_core.proofs.BookOutcome as O
@@ -17,8 +17,8 @@ use Rattle.desk_core.proofs.BookOutcome.Laws as O′
 use Rattle.choice.proofs.ChoiceRecord as R
 use Rattle.choice.proofs.ChoiceRecord.Laws as R′
 use Rattle.units.proofs.Link as the-Link
-use Rattle.desk_core.proofs.LinkTable as the-LinkTable
-use Rattle.desk_core.proofs.LinkTable.Laws as the-LinkTable′
+use Rattle.units.proofs.LinkTable as the-LinkTable
+use Rattle.units.proofs.LinkTable.Laws as the-LinkTable′
 use Rattle.units.proofs.Request as the-Request
 use Rattle.units.proofs.Request.Laws as the-Request′
 use Rattle.desk_core.proofs.reserve as core

@@ -5,18 +5,18 @@ use Rattle.desk.proofs.Walk.{ !, AllGo, Are, Args, Atoms, Calls, FmC, F
 use Rattle.desk.proofs.Calls.{Of, calls-for, Token, Own, lends}
 use Rattle.desk.proofs.Wrap.{after, all-passed, all-passed-go, opened, closed, calls-on, landed, gone, leaves, restated}
 use denote.Struct.Laws as LL
-use Rattle.desk_core.specs.LinkTables.{table-of}
+use Rattle.units.specs.LinkTables.{table-of}
 use Rattle.desk.proofs.Laws.{book-after-same, events-after-same, free-after-same, head-after-same, refusal-answer-same}
 use Rattle.units.specs.declared.Head.{Head}
 use Rattle.units.specs.declared.Link.{Link}
-use Rattle.desk_core.specs.declared.LinkTable.{LinkTable}
+use Rattle.units.specs.declared.LinkTable.{LinkTable}
 use Rattle.units.proofs.Head as T
 use Rattle.units.proofs.Head.Laws as T′
 use Rattle.desk_core.proofs.CallOutcome as O
 use Rattle.desk_core.proofs.CallOutcome.Laws as O′
 use Rattle.units.proofs.Link as the-Link
-use Rattle.desk_core.proofs.LinkTable as the-LinkTable
-use Rattle.desk_core.proofs.LinkTable.Laws as the-LinkTable′
+use Rattle.units.proofs.LinkTable as the-LinkTable
+use Rattle.units.proofs.LinkTable.Laws as the-LinkTable′
 use Rattle.units.proofs.Minute as the-Minute
 use Rattle.units.proofs.Minute.Laws as the-Minute′
 use Rattle.desk_core.proofs.move_clock as core

@@ -6,32 +6,32 @@
 use Rattle.desk.proofs.Walk.{ !, Atoms, Below, Bool, Calls, Env, FmC, Fun, Given, Heap, InvImage·wf, Is, Item, Lft, List, Loops, Meets, Memory, Nat·lt-wfRel, Out, RefT, Room, Routine, SProp, Share, ShrSlice, Sq, Stays, Tables, Triple, Ty, URA, Val, Walks, WellFounded, Wp, WpFn, WpFn-mono, [], _$_, _+_, _-_, _<_, _^_, _∙_, _∵_, _∷_, _≡_, _≤_, _⊛_, add-one, add-one-dec, afterBlock, afterSeq, afterTurn, again, alloc0, alloc1, and-then, anyQ, ap, arith, assigns, assigns-last, atRet, atReturn, bin, blocks, by, cited, done, drop, emp, ends-at, ent, enter, entered, exec, false, fat, fdies, first, fjoin, fld, fmOf, forget, frame, free0, free1, from, froom, fsplit, fst∗, ftrue, fullShare, getD, givenOf, goes-none-slice, id⊢, imm, init, join, land, leaves-loop, length, lit, lit<, load, look, look-in, loops, ltb, ltb-false, ltb-true, move, named, no-more, nothing, of-opd, onEntry, only, owned, owns, params1, pass0, pass1, plain, pointee, qed, raw, refl, returns, rewrite, runs, says, shr-slice-tells, slice-vals, sliceTy, sliceVal, split, stay-none-slice, stays, stop, store, sub, subst, suffices, sym, tables, tablesOf, tripleOf, true, tyBool, tyInt, tyRef, uint-lawful, uint-makes, use0, use2, usize, vbool, via, vint, w64, walk-meets, walkOf, walked, whole, yes, zero-le, ‵, ℕ, ⋆}
 use Rattle.desk.proofs.Calls.{Of, calls-for, Token, Own, lends-at}
 use denote.Struct.Laws as LL
-use Rattle.desk_core.specs.LinkTables.{table-of, at-most-64, empty-table, with-link}
+use Rattle.units.specs.LinkTables.{table-of, at-most-64, empty-table, with-link}
 use Rattle.desk_core.specs.Plain.{no-link}
 use Rattle.units.specs.Limits.{most-links}
 use Rattle.desk.proofs.Laws.{Part, part-start, part-next, part-all, limit-top, limit-self}
 use Rattle.units.specs.declared.Link.{Link}
-use Rattle.desk_core.specs.declared.LinkTable.{LinkTable}
+use Rattle.units.specs.declared.LinkTable.{LinkTable}
 use Rattle.units.proofs.Link as T
 use Rattle.units.proofs.Link.Laws as T′
-use Rattle.desk_core.proofs.LinkTable as S
-use Rattle.desk_core.proofs.LinkTable.Laws as S′
-use Rattle.desk_core.proofs.at_most_64 as limit
-use Rattle.desk_core.proofs.at_most_64.Symbol as limit-def
-use Rattle.desk_core.proofs.at_most_64.Symbol.{name as #limit}
-use Rattle.desk_core.proofs.at_most_64.Met as limit-thm
-use Rattle.desk_core.proofs.empty_table as empty
-use Rattle.desk_core.proofs.empty_table.Symbol as empty-def
-use Rattle.desk_core.proofs.empty_table.Symbol.{name as #empty}
-use Rattle.desk_core.proofs.empty_table.Met as empty-thm
+use Rattle.units.proofs.LinkTable as S
+use Rattle.units.proofs.LinkTable.Laws as S′
+use Rattle.units.proofs.at_most_64 as limit
+use Rattle.units.proofs.at_most_64.Symbol as limit-def
+use Rattle.units.proofs.at_most_64.Symbol.{name as #limit}
+use Rattle.units.proofs.at_most_64.Met as limit-thm
+use Rattle.units.proofs.empty_table as empty
+use Rattle.units.proofs.empty_table.Symbol as empty-def
+use Rattle.units.proofs.empty_table.Symbol.{name as #empty}
+use Rattle.units.proofs.empty_table.Met as empty-thm
 use Rattle.desk.proofs.link_at as fetch
 use Rattle.desk.proofs.link_at.Symbol as fetch-def
 use Rattle.desk.proofs.link_at.Symbol.{name as #fetch}
 use Rattle.desk.proofs.link_at.Met as fetch-thm
-use Rattle.desk_core.proofs.put as put
-use Rattle.desk_core.proofs.put.Symbol as put-def
-use Rattle.desk_core.proofs.put.Symbol.{name as #put}
-use Rattle.desk_core.proofs.put.Met as put-thm
+use Rattle.units.proofs.put as put
+use Rattle.units.proofs.put.Symbol as put-def
+use Rattle.units.proofs.put.Symbol.{name as #put}
+use Rattle.units.proofs.put.Met as put-thm
 use Rattle.desk.proofs.link_table.Key.{name as #f}
 use Rattle.desk.proofs.link_table as f
 use Rattle.desk.proofs.link_table.Statement as stated

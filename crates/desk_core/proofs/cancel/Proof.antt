@@ -7,7 +7,7 @@ use denote.Ref.{now}
 use Prim.Native.Nat.{ℕ}
 use Rattle.desk_core.specs.Calls.{Ask, ask, done}
 use Rattle.desk_core.specs.Tables.{held}
-use Rattle.desk_core.specs.LinkTables.{links-of}
+use Rattle.units.specs.LinkTables.{links-of}
 use Rattle.desk_core.specs.Lent.{lent}
 use Rattle.desk_core.proofs.Exits.{refused-with, stopped, accepted, handed}
 use Rattle.desk_core.proofs.TableChecks.{fine, tables-refused, places-fit}

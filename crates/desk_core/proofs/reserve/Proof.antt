@@ -8,7 +8,7 @@ use Prim.Native.Nat.{ℕ}
 use Rattle.choice.specs.declared.StartChoice.the-variants.{Start}
 use Rattle.choice.specs.Answer.{values-of}
 use Rattle.desk_core.specs.Tables.{held}
-use Rattle.desk_core.specs.LinkTables.{links-of}
+use Rattle.units.specs.LinkTables.{links-of}
 use Rattle.desk_core.specs.Lent.{lent}
 use Rattle.desk_core.proofs.Tests.{request-right}
 use mathlib.Core.Bool.{and-eq-true-iff}

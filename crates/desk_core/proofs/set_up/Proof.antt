@@ -6,7 +6,7 @@ use borrow.Author.Tests.{not-true, not-false}
 use denote.Ref.{now}
 use lib.ListN.{length}
 use Rattle.desk_core.specs.Calls.{set-up}
-use Rattle.desk_core.specs.LinkTables.{links-of}
+use Rattle.units.specs.LinkTables.{links-of}
 use Rattle.desk_core.specs.Lent.{lent}
 use Rattle.desk_core.proofs.Exits.{refused-with, unsized, bad-links, set-up-done, handed}
 use Rattle.desk_core.proofs.TableChecks.{sizes-same, few-links}

@@ -9,7 +9,7 @@ use lib.ListN.{length}
 use Rattle.desk_core.specs.Plain.{free}
 use Rattle.desk_core.specs.Calls.{Ask, ask, shows}
 use Rattle.desk_core.specs.Tables.{held}
-use Rattle.desk_core.specs.LinkTables.{links-of}
+use Rattle.units.specs.LinkTables.{links-of}
 use Rattle.desk_core.specs.Lent.{lent}
 use Rattle.desk_core.proofs.Exits.{refused-with, stopped, accepted, handed-shown}
 use Rattle.desk_core.proofs.TableChecks.{fine, tables-refused, range-low}

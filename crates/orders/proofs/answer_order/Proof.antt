@@ -1,7 +1,7 @@
 -- `answer_order` meets its contract: each arm is the definition's case.
 use mathlib.Core.Path.{_≡_, refl, sym, _∙_, ap, subst}
 use denote.Ref.{now}
-use Rattle.desk_core.specs.LinkTables.{links-of}
+use Rattle.units.specs.LinkTables.{links-of}
 use Rattle.desk_core.specs.Lent.{lent}
 use Rattle.orders.specs.Ordered.{ordered, by-reading}
 use Rattle.orders.proofs.Answering.{unread}

@@ -1,7 +1,7 @@
 -- `answer_read` meets its contract: each arm is the order's.
 use mathlib.Core.Path.{_≡_, refl, sym, _∙_, ap, subst}
 use denote.Ref.{now}
-use Rattle.desk_core.specs.LinkTables.{links-of}
+use Rattle.units.specs.LinkTables.{links-of}
 use Rattle.desk_core.specs.Lent.{lent}
 use Rattle.orders.specs.Ordered.{answered}
 use borrow.Author.Needs.{needs}

@@ -4,7 +4,7 @@ use Prim.Native.Nat.{ℕ, _+_, _-_}
 use native.Mathlib.Omega.{arith}
 use borrow.Author.Needs.{needs}
 use denote.Ref.{now}
-use Rattle.desk_core.specs.declared.LinkTable.{LinkTable}
+use Rattle.units.specs.declared.LinkTable.{LinkTable}
 use Rattle.orders.specs.Opened.{link-record, with-link}
 use Rattle.orders.proofs.Columns.{Filled, filled-none, filled-more, stopped, all-read, all-in}
 use Rattle.orders.proofs.read_links.Statement.{statement}

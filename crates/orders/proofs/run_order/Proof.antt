@@ -2,7 +2,7 @@
 use mathlib.Core.Path.{ap, subst}
 use native.Mathlib.Omega.{arith}
 use denote.Ref.{now}
-use Rattle.desk_core.specs.LinkTables.{links-of}
+use Rattle.units.specs.LinkTables.{links-of}
 use Rattle.desk_core.specs.Lent.{lent}
 use Rattle.report.specs.Written.{Wrote}
 use Rattle.orders.specs.Ordered.{Ordered, line-of}

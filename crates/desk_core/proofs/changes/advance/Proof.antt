@@ -7,7 +7,7 @@ use Rattle.desk_core.specs.Plain.{Plain}
 use Rattle.desk_core.specs.Calls.{move-to}
 use Rattle.desk_core.specs.Tables.{Tables, held, book-table}
 use Rattle.desk_core.specs.Sound.{Obeys}
-use Rattle.desk_core.specs.LinkTables.{links-of}
+use Rattle.units.specs.LinkTables.{links-of}
 use Rattle.desk_core.specs.Lent.{lent}
 use Rattle.desk_core.proofs.Step.{obeys-move-to}
 use Rattle.desk_core.proofs.InOrder.{sizes, book-obeys, few-bookings, book-moved, count-moved}

@@ -6,7 +6,7 @@ use Rattle.desk_core.specs.Plain.{Plain}
 use Rattle.desk_core.specs.Calls.{take-out}
 use Rattle.desk_core.specs.Tables.{Tables, held, book-table}
 use Rattle.desk_core.specs.Sound.{Obeys}
-use Rattle.desk_core.specs.LinkTables.{links-of}
+use Rattle.units.specs.LinkTables.{links-of}
 use Rattle.desk_core.specs.Lent.{lent}
 use Rattle.desk_core.proofs.Step.{obeys-take-out}
 use Rattle.desk_core.proofs.InOrder.{sizes, book-obeys, few-bookings, Released, released}

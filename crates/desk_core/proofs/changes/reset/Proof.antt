@@ -5,7 +5,7 @@ use native.Mathlib.Omega.{arith}
 use lib.ListN.{length, replicate}
 use borrow.Author.Needs.{needs}
 use Rattle.units.specs.Limits.{most-links}
-use Rattle.desk_core.specs.LinkTables.{links-of}
+use Rattle.units.specs.LinkTables.{links-of}
 use Rattle.desk_core.specs.Lent.{lent}
 use Rattle.desk_core.proofs.Tests.{Sized, sized-tells}
 use Rattle.desk_core.proofs.LinkColumns.{links-count, capacities-long}

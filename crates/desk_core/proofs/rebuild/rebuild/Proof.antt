@@ -7,8 +7,8 @@ use Prim.Native.Nat.{ℕ, _-_, _≤_}
 use native.Mathlib.Omega.{arith}
 use lib.ListN.{length}
 use borrow.Author.Tests.{not-true, not-false}
-use Rattle.desk_core.specs.declared.LinkTable.{LinkTable}
-use Rattle.desk_core.specs.LinkTables.{links-of}
+use Rattle.units.specs.declared.LinkTable.{LinkTable}
+use Rattle.units.specs.LinkTables.{links-of}
 use Rattle.desk_core.specs.Rebuilding.{TablesSized, CanRebuild}
 use Rattle.desk_core.proofs.LinkColumns.{capacities-long}
 use Rattle.desk_core.proofs.Rebuilt.{Rebuilt, from-place, from-first, rebuilt-none, place-sizes, place-asks, place-gives}

@@ -7,7 +7,7 @@ use lib.Dec.{ltb}
 use borrow.Author.Needs.{needs}
 use borrow.Author.Tests.{lt-ltb, le-ltb, not-true, not-false}
 use Rattle.desk_core.specs.Tables.{booking-of, plain-in, booking-ok}
-use Rattle.desk_core.specs.LinkTables.{links-of}
+use Rattle.units.specs.LinkTables.{links-of}
 use Rattle.desk_core.specs.Checking.{tidy, at-clock, book-ok}
 use Rattle.desk_core.proofs.Tidy.{right-from, right-here, right-past, book-right-is, tidy-few}
 use Rattle.desk_core.proofs.soundness.book_right.Statement.{statement}

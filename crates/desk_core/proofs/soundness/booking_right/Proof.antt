@@ -8,7 +8,7 @@ use Rattle.units.specs.Limits.{last-number, last-minute, longest, most-bandwidt
 use Rattle.units.specs.Lists.{within}
 use Rattle.path_search.specs.Paths.{path-ok}
 use Rattle.desk_core.specs.Plain.{graph}
-use Rattle.desk_core.specs.LinkTables.{links-of}
+use Rattle.units.specs.LinkTables.{links-of}
 use Rattle.desk_core.specs.Rebuilding.{path-of}
 use Rattle.desk_core.proofs.soundness.booking_right.Statement.{statement}
 use Rattle.desk_core.proofs.soundness.booking_right.Tie as tie

@@ -8,9 +8,9 @@ use native.Mathlib.Omega.{arith}
 use borrow.Author.Needs.{needs}
 use borrow.Author.Tests.{not-true, not-false}
 use Rattle.units.specs.Lists.{count-from, all}
-use Rattle.desk_core.specs.declared.LinkTable.{LinkTable}
+use Rattle.units.specs.declared.LinkTable.{LinkTable}
 use Rattle.desk_core.specs.Tables.{link-ok, links-ok}
-use Rattle.desk_core.specs.LinkTables.{link-at, links-of}
+use Rattle.units.specs.LinkTables.{link-at, links-of}
 use Rattle.desk_core.proofs.soundness.links_right.Statement.{statement}
 use Rattle.desk_core.proofs.soundness.links_right.Tie as tie
 

@@ -12,9 +12,9 @@ use mir.Val.{Fits}
 use mir.Syntax.{w64}
 use Rattle.units.specs.Limits.{last-node, most-hops}
 use Rattle.path_search.specs.Paths.{goes-on, first-node, path-ok}
-use Rattle.desk_core.specs.declared.LinkTable.{LinkTable}
+use Rattle.units.specs.declared.LinkTable.{LinkTable}
 use Rattle.desk_core.specs.Plain.{graph}
-use Rattle.desk_core.specs.LinkTables.{links-of}
+use Rattle.units.specs.LinkTables.{links-of}
 use Rattle.desk_core.proofs.LinkColumns.{from-column}
 use Rattle.desk_core.proofs.Going.{Marks, marks-none, marks-more, path-none, path-some, path-rest, from-node, to-node, going-past, going-elsewhere, going-again, going-on}
 use Rattle.desk_core.proofs.soundness.path_right.Statement.{statement}

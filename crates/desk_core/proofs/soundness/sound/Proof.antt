@@ -8,7 +8,7 @@ use borrow.Author.Tests.{not-true, not-false}
 use Rattle.units.specs.Limits.{most-links}
 use Rattle.units.proofs.Search.{clash}
 use Rattle.desk_core.specs.Tables.{Tables, held, links-ok, sound}
-use Rattle.desk_core.specs.LinkTables.{links-of}
+use Rattle.units.specs.LinkTables.{links-of}
 use Rattle.desk_core.specs.Lent.{lent}
 use Rattle.desk_core.specs.Checking.{book-ok, BookFits}
 use Rattle.desk_core.proofs.Tests.{Sized, sized-tells}

@@ -1,8 +1,8 @@
 -- empty_table meets its contract: both sides compute.
 use borrow.Author.Needs.{needs}
-use Rattle.desk_core.specs.LinkTables.{columns, column}
-use Rattle.desk_core.proofs.empty_table.Statement.{statement}
-use Rattle.desk_core.proofs.empty_table.Tie as tie
+use Rattle.units.specs.LinkTables.{columns, column}
+use Rattle.units.proofs.empty_table.Statement.{statement}
+use Rattle.units.proofs.empty_table.Tie as tie
 
 returns : tie.Need-returns
 unfolding columns column

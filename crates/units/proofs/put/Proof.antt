@@ -1,8 +1,8 @@
 -- put meets its contract: each column is written at its place.
-use Rattle.desk_core.specs.LinkTables.{with-link}
+use Rattle.units.specs.LinkTables.{with-link}
 use borrow.Author.Needs.{needs}
-use Rattle.desk_core.proofs.put.Statement.{statement}
-use Rattle.desk_core.proofs.put.Tie as tie
+use Rattle.units.proofs.put.Statement.{statement}
+use Rattle.units.proofs.put.Tie as tie
 
 mul-filled : tie.Need-mul-filled
 mul-filled c = search needs

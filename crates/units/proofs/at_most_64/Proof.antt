@@ -2,8 +2,8 @@
 use mathlib.Core.Path.{sym}
 use native.Mathlib.Nat.{min-eq-left, min-eq-right}
 use native.Mathlib.Omega.{arith}
-use Rattle.desk_core.proofs.at_most_64.Statement.{statement}
-use Rattle.desk_core.proofs.at_most_64.Tie as tie
+use Rattle.units.proofs.at_most_64.Statement.{statement}
+use Rattle.units.proofs.at_most_64.Tie as tie
 
 returns : tie.Need-returns
 returns c = sym (min-eq-left (let h = c .if1 .taken in omega arith))
