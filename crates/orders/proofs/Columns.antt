@@ -6,14 +6,14 @@ use Prim.Native.Nat.{ℕ, zero, suc, _+_, _<_, _≤_}
 use native.Mathlib.Omega.{arith}
 use borrow.Author.Count.{below-more}
 use borrow.Author.Tests.{eq-eqb, ne-eqb}
-use lib.ListN.{length, getD, set, length-set, length-replicate}
+use lib.ListN.{length, getD, set, length-set}
 use lib.Seq.{getD-set-same, getD-set-other}
 use Rattle.units.specs.Limits.{most-links}
 use Rattle.units.specs.Lists.{count-from}
 use Rattle.units.proofs.Search.{firstFrom-first, firstFrom-nothing}
 use Rattle.units.specs.declared.LinkTable.{LinkTable}
-use Rattle.units.specs.LinkTables.{link-at, links-of}
-use Rattle.orders.specs.Opened.{link-record, unreadable, refusal-of, links-refusal, links-in, with-link, blank}
+use Rattle.units.specs.LinkTables.{link-at, links-of, column, columns, empty-table, with-link}
+use Rattle.orders.specs.Opened.{link-record, unreadable, refusal-of, links-refusal, links-in}
 
 map-same : {A : Type 0} (f g : ℕ → A) (i n : ℕ) → ((j : ℕ) → i ≤ j → j < i + n → f j ≡ g j) → map f (count-from i n) ≡ map g (count-from i n)
 unfolding count-from
@@ -31,19 +31,21 @@ pub record Filled (bytes : List ℕ) (n : ℕ) (t : LinkTable) (i : ℕ) : Type 
   pub same : (j : ℕ) → j < i → link-at t j ≡ link-record bytes j .link
 
 module _ (bytes : List ℕ) (n : ℕ) where
-  pub filled-none : Filled bytes n (blank n) 0
+  pub filled-none : Filled bytes n (empty-table n) 0
+  unfolding columns column
   filled-none = record {
     not-past = omega arith;
     counted = refl;
-    from-long = length-replicate {A = ℕ} most-links 0;
-    to-long = length-replicate {A = ℕ} most-links 0;
-    capacity-long = length-replicate {A = ℕ} most-links 0;
+    from-long = refl;
+    to-long = refl;
+    capacity-long = refl;
     read = λ j h. absurd (omega arith);
     same = λ j h. absurd (omega arith);
   }
 
   module _ (t : LinkTable) (i : ℕ) (f : Filled bytes n t i) where
     pub filled-more : i < n → n ≤ most-links → link-record bytes i .refusal ≡ 0 → Filled bytes n (with-link t i (link-record bytes i .link)) (i + 1)
+    unfolding with-link
     filled-more h few z = record {
       not-past = omega arith;
       counted = f .counted;

@@ -14,10 +14,10 @@ use Rattle.record.specs.Records.{if-passed}
 use Rattle.units.specs.declared.LinkTable.{LinkTable}
 use Rattle.desk_core.specs.Calls.{set-up}
 use Rattle.desk_core.specs.Tables.{Tables, outcome}
-use Rattle.units.specs.LinkTables.{links-of}
+use Rattle.units.specs.LinkTables.{links-of, columns, empty-table}
 use Rattle.desk_core.specs.Lent.{lent, refusal-answer, head-after, events-after, free-after, book-after}
 use Rattle.orders.specs.declared.LinksFound.{LinksFound}
-use Rattle.orders.specs.Opened.{links-refusal, links-in, first-byte, bytes-refusal, Opened, by-set-up, opened, desk-of, blank, Found}
+use Rattle.orders.specs.Opened.{links-refusal, links-in, first-byte, bytes-refusal, Opened, by-set-up, opened, desk-of, Found}
 use Rattle.orders.proofs.Answering.{Back}
 
 module _ (bytes : List ℕ) where
@@ -60,9 +60,9 @@ module _ (bytes : List ℕ) where
     by-test passed = if-passed passed (by-set-up t (links-in bytes (first-byte bytes))) (record { refusal = bytes-refusal bytes; links = []; tables = t })
 
     -- a refusal leaves the tables as they came
-    pub stopped : {k : ℕ} {links : LinkTable} → k ≡ bytes-refusal bytes → (k ≡ 0 → ⊥) → links ≡ blank 0
+    pub stopped : {k : ℕ} {links : LinkTable} → k ≡ bytes-refusal bytes → (k ≡ 0 → ⊥) → links ≡ empty-table 0
         → desk-of (record { refusal = k; head = t .head; links = links }) (t .events) (t .free) (t .book) ≡ opened t bytes
-    unfolding opened links-of count-from
+    unfolding opened links-of columns count-from
     stopped e ne b = ap₂ (λ x y. record { refusal = x; links = links-of y; tables = t }) e b ∙ sym (ap by-test (ne-eqb (bytes-refusal bytes) 0 (λ z. ne (e ∙ z))))
 
     -- where the bytes pass, the rest is the set-up's

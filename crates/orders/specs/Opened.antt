@@ -4,7 +4,7 @@ use mathlib.Core.List.{List, [], map}
 use mathlib.Core.Bool.{Bool, not}
 use Prim.Native.Nat.{ℕ, _+_, _*_}
 use lib.Dec.{leb, eqb}
-use lib.ListN.{length, getD, set, replicate, take, drop}
+use lib.ListN.{length, getD, take, drop}
 use Rattle.units.specs.declared.Link.{Link}
 use Rattle.units.specs.Limits.{most-links}
 use Rattle.units.specs.Lists.{within, count-from}
@@ -73,14 +73,6 @@ opened t bytes = if-passed (eqb (bytes-refusal bytes) 0) (by-set-up t (links-in 
 -- the desk that was opened and its tables, as they are handed back
 abbrev pub desk-of : OpenedDesk → List ℕ → List ℕ → List ℕ → Opened
 desk-of r events free places = record { refusal = r .refusal; links = links-of (r .links); tables = lent (r .head) events free places }
-
--- the columns with link i put in
-abbrev pub with-link : LinkTable → ℕ → Link → LinkTable
-with-link t i l = record { count = t .count; from = set (t .from) i (l .from); to = set (t .to) i (l .to); capacity = set (t .capacity) i (l .capacity .0) }
-
--- columns of n links, all zero
-abbrev pub blank : ℕ → LinkTable
-blank n = record { count = n; from = replicate most-links 0; to = replicate most-links 0; capacity = replicate most-links 0 }
 
 -- a refusal number, and where it is 0 these links
 pub record Found (refusal : ℕ) (links : List Link) (r : LinksFound) : Type 0 where

@@ -18,10 +18,11 @@ use report::Report;
 use report::write_line;
 use units::Head;
 use units::LINKS;
-use units::Link;
 use units::LinkTable;
 use units::Minute;
 use units::PATH_LINKS;
+use units::empty_table;
+use units::put;
 ghost use mathlib.Core.Path.{_≡_};
 ghost use mathlib.Core.List.{[]};
 ghost use Prim.Native.Nat.{_+_, _*_, _<_, _≤_};
@@ -34,7 +35,7 @@ ghost use Rattle.desk_core.specs.Lent.{lent};
 ghost use Rattle.report.specs.Line.{line, max-line};
 ghost use Rattle.report.specs.Written.{Wrote};
 ghost use Rattle.orders.specs.Ordered.{answered, ordered, handed, line-of};
-ghost use Rattle.orders.specs.Opened.{link-record, links-refusal, links-in, first-byte, bytes-refusal, opened, desk-of, with-link, blank, Found, desk-report};
+ghost use Rattle.orders.specs.Opened.{link-record, links-refusal, links-in, first-byte, bytes-refusal, opened, desk-of, Found, desk-report};
 
 // Refusal numbers.
 const BAD_COUNT: u32 = 1;
@@ -275,37 +276,13 @@ fn link_record(bytes: &[u8], i: usize) -> LinkRecord
     gcr_read_link(&bytes[at..end])
 }
 
-// The link table with link `i` put in.
-fn with_link(table: LinkTable, i: usize, link: Link) -> LinkTable
-    requires { ⌜ i < most-links ⌝ }
-    ensures { λ r. ⌜ r ≡ with-link table i link ⌝ }
-{
-    let mut next = table;
-    next.from[i] = link.from;
-    next.to[i] = link.to;
-    next.capacity[i] = link.capacity.0;
-    next
-}
-
-// A link table of this many links, all zero.
-fn blank_links(count: usize) -> LinkTable
-    ensures { λ r. ⌜ r ≡ blank count ⌝ }
-{
-    LinkTable {
-        count,
-        from: [0; LINKS],
-        to: [0; LINKS],
-        capacity: [0; LINKS],
-    }
-}
-
 // Reads `count` link records in turn, up to the first that cannot be read.
 fn read_links(bytes: &[u8], count: usize) -> LinksFound
     requires { ⌜ count ≤ most-links ⌝ }
     requires { ⌜ 1 + count * 8 ≤ length (now bytes) ⌝ }
     ensures { λ r. ⌜ Found (links-refusal (now (bytes .entry)) count) (links-in (now (bytes .entry)) count) r ⌝ }
 {
-    let mut table = blank_links(count);
+    let mut table = empty_table(count);
     let mut i: usize = 0;
     while i < count {
         let record = link_record(bytes, i);
@@ -314,7 +291,7 @@ fn read_links(bytes: &[u8], count: usize) -> LinksFound
         if refusal != 0 {
             return LinksFound { refusal, table };
         }
-        table = with_link(table, i, link);
+        table = put(table, i, link);
         i += 1;
     }
     LinksFound { refusal: 0, table }
@@ -326,7 +303,7 @@ fn no_links(refusal: u32) -> LinksFound
 {
     LinksFound {
         refusal,
-        table: blank_links(0),
+        table: empty_table(0),
     }
 }
 
@@ -367,7 +344,7 @@ pub fn open_desk(
         return Opened {
             refusal,
             head,
-            links: blank_links(0),
+            links: empty_table(0),
         };
     }
     let outcome = set_up(head, links, events, free, book);

@@ -10,13 +10,13 @@ use Rattle.orders.proofs.open_desk.Tie as tie
 session-links-requires : tie.Need-session-links-requires
 session-links-requires c κs = search needs
 
-blank-links-requires : tie.Need-blank-links-requires
-blank-links-requires c κs = search needs
+empty-table-requires : tie.Need-empty-table-requires
+empty-table-requires c κs = search needs
 
 returns : tie.Need-returns
 returns c = let a = c .before .before .before .before .before .before .before .before .args in
     let t = lent (a .head) (now (a .events)) (now (a .free)) (now (a .book)) in
-    stopped (now (a .bytes)) t (c .before .before .before .session-links .ensures .refusal-is) (c .before .if1 .taken) (c .blank-links .ensures)
+    stopped (now (a .bytes)) t (c .before .before .before .session-links .ensures .refusal-is) (c .before .if1 .taken) (c .empty-table .ensures)
 
 set-up-requires : tie.Need-set-up-requires
 set-up-requires c κs = search needs
@@ -43,7 +43,7 @@ open-desk-spec =
     tie.close
     (tie.spec
     session-links-requires
-    blank-links-requires
+    empty-table-requires
     returns
     set-up-requires
     same-length

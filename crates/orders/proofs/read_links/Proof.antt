@@ -5,7 +5,8 @@ use native.Mathlib.Omega.{arith}
 use borrow.Author.Needs.{needs}
 use denote.Ref.{now}
 use Rattle.units.specs.declared.LinkTable.{LinkTable}
-use Rattle.orders.specs.Opened.{link-record, with-link}
+use Rattle.units.specs.LinkTables.{with-link}
+use Rattle.orders.specs.Opened.{link-record}
 use Rattle.orders.proofs.Columns.{Filled, filled-none, filled-more, stopped, all-read, all-in}
 use Rattle.orders.proofs.read_links.Statement.{statement}
 use Rattle.orders.proofs.read_links.Tie as tie
@@ -16,12 +17,12 @@ Inv-loop bytes count table₀ i₀ table i = Filled bytes count table i
 abbrev μ-loop : tie.MeasureT-loop
 μ-loop bytes count table₀ i₀ table i = count - i
 
-blank-links-requires : tie.Need-blank-links-requires Inv-loop μ-loop
-blank-links-requires c κs = search needs
+empty-table-requires : tie.Need-empty-table-requires Inv-loop μ-loop
+empty-table-requires c κs = search needs
 
 loop-holds : tie.Need-loop-holds Inv-loop μ-loop
 loop-holds c = let a = c .before .before .args in
-    subst (λ (t : LinkTable). Filled (now (a .bytes)) (a .count) t 0) (sym (c .blank-links .ensures)) (filled-none (now (a .bytes)) (a .count))
+    subst (λ (t : LinkTable). Filled (now (a .bytes)) (a .count) t 0) (sym (c .empty-table .ensures)) (filled-none (now (a .bytes)) (a .count))
 
 link-record-requires : tie.Need-link-record-requires Inv-loop μ-loop
 link-record-requires c κs = omega arith
@@ -35,8 +36,8 @@ returns c = let a = c .before .before .before .before .before .before .before .a
       links-are = λ z. absurd (c .if1 .taken z);
     }
 
-with-link-requires : tie.Need-with-link-requires Inv-loop μ-loop
-with-link-requires c κs = omega arith
+put-requires : tie.Need-put-requires Inv-loop μ-loop
+put-requires c κs = omega arith
 
 add-i : tie.Need-add-i Inv-loop μ-loop
 add-i c = omega arith
@@ -48,7 +49,7 @@ loop-again : tie.Need-loop-again Inv-loop μ-loop
 loop-again c = let a = c .before .before .before .before .before .before .before .before .args in
     let l = c .before .before .before .before .before .loop in
     let e = c .before .before .before .link-record .ensures in
-    subst (λ (t : LinkTable). Filled (now (a .bytes)) (a .count) t (l .i + 1)) (sym (c .with-link .ensures ∙ ap (λ x. with-link (l .table) (l .i) (x .link)) e)) (filled-more (now (a .bytes)) (a .count) (l .table) (l .i) (l .inv) (search needs) (search needs) (sym (ap (λ x. x .refusal) e) ∙ c .before .if1 .left))
+    subst (λ (t : LinkTable). Filled (now (a .bytes)) (a .count) t (l .i + 1)) (sym (c .put .ensures ∙ ap (λ x. with-link (l .table) (l .i) (x .link)) e)) (filled-more (now (a .bytes)) (a .count) (l .table) (l .i) (l .inv) (search needs) (search needs) (sym (ap (λ x. x .refusal) e) ∙ c .before .if1 .left))
 
 returns-2 : tie.Need-returns-2 Inv-loop μ-loop
 returns-2 c = let a = c .before .before .before .before .args in
@@ -61,11 +62,11 @@ read-links-spec =
     (tie.spec
     Inv-loop
     μ-loop
-    blank-links-requires
+    empty-table-requires
     loop-holds
     link-record-requires
     returns
-    with-link-requires
+    put-requires
     add-i
     loop-less
     loop-again
