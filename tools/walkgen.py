@@ -29,7 +29,6 @@ MARK = "-- Printed by tools/walkgen.py: change the source or the generator, not 
 dash = lambda s: s.replace("_", "-")
 last = lambda t: t.strip().split("::")[-1]
 proj = lambda i: " .1" * i + " .0"          # the i-th of a tuple that ends in tt
-ones = lambda i: " .1" * i
 tup = lambda xs: "(" + ", (".join(xs) + ", tt" + ")" * len(xs) if xs else "tt"
 sub_ = lambda i: "".join(chr(0x2080 + int(c)) for c in str(i))
 STRUCT = r"(?:\w+::)*[A-Z]\w*"
@@ -154,7 +153,7 @@ def imports(text):
     if "LL." in code_: out.append("use denote.Struct.Laws as LL")
     return out
 
-def cites(alias, g, met=True):
+def cites(alias, g):
     """The `use` lines of a callee."""
     lib = proofs(g.c, g.path)
     return [f"use {lib} as {alias}", f"use {lib}.Symbol as {alias}-def", f"use {lib}.Symbol.{{name as #{alias}}}", f"use {lib}.Met as {alias}-thm"]
