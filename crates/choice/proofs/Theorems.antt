@@ -3,13 +3,13 @@ use mathlib.Core.Path.{_≡_, refl, sym, ap, subst}
 use mathlib.Core.Logic.{_≢_, _↔_, _⊎_}
 use mathlib.Core.List.{List, List·Memᴰ}
 use mathlib.Core.Bool.{Bool, true}
-use Prim.Native.Nat.{ℕ, suc, _≤_, _<_}
+use Prim.Native.Nat.{ℕ, suc, _+_, _≤_, _<_}
 use native.Mathlib.Nat.{le-refl, le-antisymm}
 use native.Mathlib.Omega.{arith}
 use Rattle.units.specs.Limits.{last-node}
 use Rattle.units.proofs.Tests.{Tells, at-most}
 use Rattle.units.proofs.Search.{allFrom-all, all-allFrom}
-use Rattle.units.proofs.Parts.{all-map}
+use Rattle.units.proofs.Parts.{all-map, all-at}
 use Rattle.timeline.specs.Events.{events}
 use Rattle.timeline.proofs.Steady.{ChangesAt}
 use Rattle.timeline.proofs.Spans.{span-back, last-start, last-start-le, last-start-between, last-start-is}
@@ -102,6 +102,13 @@ module _ (g : Graph) (figure : ℕ → ℕ → ℕ) (bandwidth duration source d
     low-first start path other b w =
         let k = b .in-window in
         le-antisymm (b .earliest low other (le-refl low, omega arith) w) (k .0)
+
+    -- A link that lacks the bandwidth in some minute of the span only is not usable: no path of the best start has it.
+    pub partly-free-unused : (start : ℕ) (path : List ℕ) → Best g figure bandwidth duration source destination low latest start path
+        → (l k : ℕ) → start ≤ k → k < start + duration → figure l k < bandwidth → ¬ List·Memᴰ l path
+    partly-free-unused start path b l k early late short i =
+        let enough = all-at (FreeThroughout g figure bandwidth duration source destination start) (b .carried .1) i k early late in
+        omega arith
 
     -- ---- the answer
 

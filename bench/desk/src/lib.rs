@@ -1,0 +1,3 @@
+//! The unverified Rust desk that the proved one is timed beside.
+
+pub mod fast;

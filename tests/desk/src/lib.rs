@@ -1,0 +1,56 @@
+//! An independent desk, written from document 01 alone and not from the library, which tries every minute; the tables and
+//! the program's lines that document 01 prescribes for it; and generators of sessions, histories and damages.
+
+pub mod calls;
+pub mod cases;
+pub mod damages;
+pub mod lines;
+pub mod plain;
+pub mod sessions;
+pub mod tables;
+
+pub const NODES: usize = 32;
+pub const LINKS: usize = 64;
+pub const BOOKINGS: usize = 64;
+pub const PATH_LINKS: usize = 31;
+/// Places for events: the clock, and a start and an end of each booking.
+pub const EVENTS: usize = 129;
+/// Figures of a row of the free table.
+pub const ROW: usize = 64;
+/// Figures of a place of the book: number, start, duration, bandwidth, count of links, and the path.
+pub const PLACE: usize = 36;
+pub const MAX_NUMBER: u32 = 16_383;
+pub const MAX_CAPACITY: u32 = 1_000_000;
+pub const MAX_BANDWIDTH: u32 = 1_000_000;
+pub const MAX_DURATION: u32 = 525_600;
+pub const MAX_MINUTE: u32 = 1_000_000_000;
+/// The last minute that may be shown: the latest end.
+pub const MAX_END: u32 = 1_000_525_600;
+
+#[repr(C)]
+#[derive(Clone, Copy, Debug, PartialEq, Eq, Default)]
+pub struct Link {
+    pub from: u32,
+    pub to: u32,
+    pub capacity: u32,
+}
+
+/// What a booking or an offer asks for. A latest start that a record leaves open is MAX_MINUTE here.
+#[repr(C)]
+#[derive(Clone, Copy, Debug, PartialEq, Eq, Default)]
+pub struct Request {
+    pub from: u32,
+    pub to: u32,
+    pub bandwidth: u32,
+    pub duration: u32,
+    pub earliest: u32,
+    pub latest: u32,
+}
+
+#[repr(C)]
+#[derive(Clone, Copy, Debug, PartialEq, Eq, Default)]
+pub struct Head {
+    pub clock: u32,
+    pub links: u32,
+    pub bookings: u32,
+}
