@@ -1,11 +1,26 @@
 #!/usr/bin/env python3
-"""Print the walks of a crate whose functions take a record by reference and a lent slice of structs.
+"""Prints the proofs (walks) of a crate's functions that the borrow checker does not cover: calls over a record by reference
+and a lent slice of structs.
 
-    tools/walkgen.py CRATE          writes crates/CRATE/proofs/../FN/Proof.antt for every function of a known form, and says what it left
-    tools/walkgen.py CRATE FN       prints one (FN of a module m is `FN`; of `impl S`: `S::FN`)
+    tools/walkgen.py CRATE          writes crates/CRATE/proofs/../FN/Proof.antt for every function of a form below, and says what it left
+    tools/walkgen.py CRATE FN       prints one
 
-Run in the repository's root. It reads crates/*/src/**/*.rt as `rt fmt` lays them out, and one crate's proofs/Walk.antt, Calls.antt, Wrap.antt (CRATE's own, or that
-of the first crate that has them). Names are free. README.md has the forms. What it prints is a proof like any other: the check decides."""
+Run it in the repository's root after `rt fmt`, whose layout it reads. A proof without its mark line is kept. What it prints is
+a proof like any other: the check decides. Names are free; the forms are
+
+    AT(links: &[L], i: usize) -> L            links[i]
+    TABLE(links: &[L]) -> T                   let count = links.len(); let n = LIMIT(count); let mut t = EMPTY(count);
+                                              let mut i: usize = 0; while i < n { t = PUT(t, i, AT(links, i)); i = i + 1; } t
+    F(head: &mut S, links: &[L], P..) -> R    let t = TABLE(links); let out = CORE(*head, t, P..); *head = out.HEAD; out.RESULT
+    F(head: &S, links: &[L], P..) -> R        let t = TABLE(links); CORE(*head, t, P..)
+
+P: slices of numbers, numbers and structs of them, passed on in their order. CORE's clauses are F's, in their order, with `head`
+for `now (head .entry)`, `r .HEAD` for `now (head .exit)` and `r .RESULT` for `r`. Where an equation's right side is in other
+words than CORE's, `NAME ..`, proofs/Laws.antt has `NAME-same` with NAME's arguments: what CORE says of the table is what F says
+of the list. Contracts: AT requires `i < length (now links)` and ensures `r ≡ getD (now (links .entry)) i NAME`; TABLE
+`r ≡ NAME (now (links .entry))`, LIMIT `r ≡ NAME n`, EMPTY `r ≡ NAME count`, PUT requires `i < NUMBER` and ensures
+`r ≡ NAME t i l`. Laws.antt exports Part, part-start, part-next, part-all, limit-top and limit-self for TABLE's loop; Walk.antt,
+Calls.antt and Wrap.antt beside it have the steps that walks share."""
 import re, sys, glob, os
 
 W = {"u8": "w8", "u16": "w16", "u32": "w32", "u64": "w64", "usize": "w64"}
@@ -14,7 +29,6 @@ MARK = "-- Printed by tools/walkgen.py: change the source or the generator, not 
 dash = lambda s: s.replace("_", "-")
 last = lambda t: t.strip().split("::")[-1]
 proj = lambda i: " .1" * i + " .0"          # the i-th of a tuple that ends in tt
-ones = lambda i: " .1" * i
 tup = lambda xs: "(" + ", (".join(xs) + ", tt" + ")" * len(xs) if xs else "tt"
 sub_ = lambda i: "".join(chr(0x2080 + int(c)) for c in str(i))
 STRUCT = r"(?:\w+::)*[A-Z]\w*"
@@ -36,32 +50,25 @@ def of(c):
 
 class Fun: pass
 
-def find_fn(c, name, owner=None):
+def find_fn(c, name):
     """The function of that name in the crate, and where it stands."""
     for mod, text in of(c).items():
         for m in re.finditer(r"\bfn\s+" + name + r"\s*(<[^>]*>)?\(", text):
-            own = None
-            for im in re.finditer(r"^impl\s+(\w+)\s*\{.*?^\}", text, re.S | re.M):
-                if im.start() < m.start() < im.end(): own = im.group(1)
-            if owner and own != owner: continue
             i, depth = m.end(), 1
             while depth:
                 depth += {"(": 1, ")": -1}.get(text[i], 0); i += 1
             rest = text[i:]
             r = re.match(r"\s*->\s*([A-Za-z0-9_:]+)", rest)
-            ind = "    " if own else ""
-            b = re.search(r"^" + ind + r"\{(.*?)^" + ind + r"\}", rest, re.S | re.M) or die(f"no body of {name}")
+            b = re.search(r"^\{(.*?)^\}", rest, re.S | re.M) or die(f"no body of {name}")
             f = Fun()
-            f.c, f.mod, f.owner, f.name, f.ps = c, mod, own, name, []
+            f.c, f.mod, f.name, f.ps = c, mod, name, []
             for p in re.split(r",(?![^\[]*\])", text[m.end():i - 1]):
                 p = p.strip()
                 if not p: continue
-                if re.match(r"&\s*('\w+\s+)?(mut\s+)?self$", p): f.ps.append(("self", re.sub("self", own, p)))
-                else: f.ps.append(tuple(x.strip() for x in p.split(":", 1)))
-            res = last(r.group(1)) if r else "()"
-            f.res = own if res == "Self" else res
+                f.ps.append(tuple(x.strip() for x in p.split(":", 1)))
+            f.res = last(r.group(1)) if r else "()"
             f.body, f.contract, f.lfts = b.group(1).strip(), re.sub(r"\s+", " ", rest[:b.start()]), re.findall(r"'\w+", m.group(1) or "")
-            f.path = mod + ((own,) if own else ()) + (name,)
+            f.path = mod + (name,)
             return f
     return None
 
@@ -109,8 +116,6 @@ def fields(c, name):
 def layout(c, t):
     """Size and alignment of a type, in bytes."""
     if t in SIZE: return SIZE[t], SIZE[t]
-    if m := re.match(r"\[\s*(.+)\s*;\s*(\d+)\s*\]$", t):
-        s, a = layout(c, m.group(1)); return s * int(m.group(2)), a
     at, al = 0, 1
     for _, ft in fields(c, last(t)):
         s, a = layout(c, ft)
@@ -145,11 +150,10 @@ def imports(text):
     for mod, names in (("Calls", ["Of", "calls-for", "Token", "Own", "lends", "lends-at"]), ("Wrap", ["after", "all-passed", "all-passed-go", "opened", "closed", "peeked", "calls-on", "landed", "gone", "leaves", "restated"])):
         got = [x for x in names if uses(x, code_)]
         if got: out.append(f"use {lib}{mod}.{{" + ", ".join(got) + "}")
-    if "EL." in code_: out.append("use denote.Enum.Laws as EL")
     if "LL." in code_: out.append("use denote.Struct.Laws as LL")
     return out
 
-def cites(alias, g, met=True):
+def cites(alias, g):
     """The `use` lines of a callee."""
     lib = proofs(g.c, g.path)
     return [f"use {lib} as {alias}", f"use {lib}.Symbol as {alias}-def", f"use {lib}.Symbol.{{name as #{alias}}}", f"use {lib}.Met as {alias}-thm"]
@@ -223,96 +227,59 @@ def restated(F, G, rename):
 # ==== a call over a record, beside a slice of structs that is made a table
 def gen_call(F):
     params, result, body = list(F.ps), F.res, F.body
-    # the lifetime of each reference: the declared ones by their place, else one of its own in the parameters' order
-    lft_of, fresh = {}, len(F.lfts)
-    for i, (x, t) in enumerate(params):
-        if not t.startswith("&"): continue
-        m = re.match(r"&\s*('\w+)\s*", t)
-        if m: lft_of[i], t = F.lfts.index(m.group(1)), "&" + t[m.end():]
-        else: lft_of[i] = fresh; fresh += 1
-        params[i] = (x, t)
-    nlft = fresh
-    m = re.match(r"&\s*(mut\s+)?(" + STRUCT + r")$", params[0][1])
-    ref = ("mut" if m.group(1) else "shr") if m else None
-    if ref and lft_of[0] != 0: die("the record's lifetime is not the first: declare it first, <'h, 'a>(head: &'h mut S, a: &'a [u32], ..)")
-    if ref and [i for i in lft_of if i and lft_of[i] == 0]: die("another parameter has the record's lifetime")
+    # each reference has a lifetime of its own, in the parameters' order
+    refs = [i for i, (_, t) in enumerate(params) if t.startswith("&")]
+    lft_of, nlft = {i: k for k, i in enumerate(refs)}, len(refs)
+    if F.lfts: die("lifetimes are written")
+    m = re.match(r"&\s*(mut\s+)?(" + STRUCT + r")$", params[0][1]) or die("the first parameter is not a record by reference")
+    ref = "mut" if m.group(1) else "shr"
     hname = params[0][0]
     # ---- the table
-    table = None
-    if m := re.match(r"let\s+(\w+)\s*=\s*([\w:]+)\(\s*(\w+)\s*\)\s*;\s*", body):
-        names = [p[0] for p in params]
-        if m.group(3) in names and re.match(r"&\s*\[", params[names.index(m.group(3))][1]):
-            tname, table, li = m.group(1), callee(F, m.group(2)), names.index(m.group(3))
-            body = body[m.end():]
-            if ref and li != 1: die(f"{m.group(3)} is not the parameter after the record")
-            if not ref and [p for p in params[:li] if p[1].startswith("&")]: die(f"a reference stands before {m.group(3)}")
-            if lft_of[li] != (1 if ref else 0) or [i for i in lft_of if i != li and lft_of[i] == lft_of[li]]: die(f"the lifetime of {m.group(3)} is not its own, next after the record's")
-            says = re.search(r"ensures \{ λ (\w+)\. ⌜ \1 ≡ ([\w-]+) \(now \(\w+ \.entry\)\) ⌝ \}", table.contract) or die(f"{table.name} does not ensure `r ≡ NAME (now (links .entry))`")
-            if "requires" in table.contract: die(f"{table.name} has a `requires`")
-            tspec = says.group(2)
-    if not ref and not table: die("it takes no record by reference and makes no table: it is covered, or of no form that is known here")
+    m = re.match(r"let\s+(\w+)\s*=\s*([\w:]+)\(\s*" + params[1][0] + r"\s*\)\s*;\s*", body)
+    if not m or not re.match(r"&\s*\[", params[1][1]): die("it does not begin with `let t = TABLE(links);` of the slice after the record")
+    tname, table, li = m.group(1), callee(F, m.group(2)), 1
+    body = body[m.end():]
+    says = re.search(r"ensures \{ λ (\w+)\. ⌜ \1 ≡ ([\w-]+) \(now \(\w+ \.entry\)\) ⌝ \}", table.contract) or die(f"{table.name} does not ensure `r ≡ NAME (now (links .entry))`")
+    if "requires" in table.contract: die(f"{table.name} has a `requires`")
+    tspec = says.group(2)
     # ---- the form
     star = r"\s*\*" + hname + r"\s*"
     if ref == "mut":
-        if m := re.match(r"let\s+(\w+)\s*=\s*([\w:]+)\(" + star + r",?(.*?)\)\s*;" + star + r"=\s*\1\.(\w+)\s*;\s*\1\.(\w+)$", body, re.S):
-            form, core, passed, hfield, rfield = "field", m.group(2), m.group(3), m.group(4), m.group(5)
-        elif m := re.match(r"let\s+(\w+)\s*=\s*([\w:]+)\(" + star + r",?(.*?)\)\s*;" + star + r"=\s*\1\.(\w+)\s*;\s*[\w:]+\s*\{(.*)\}$", body, re.S):
-            form, core, passed, hfield = "made", m.group(2), m.group(3), m.group(4)
-            made = [re.match(r"\s*(\w+)\s*:\s*" + m.group(1) + r"\.(\w+)\s*$", x) or die("the result is not made of the outcome's fields") for x in m.group(5).split(",") if x.strip()]
-            made = [(x.group(1), x.group(2)) for x in made]
-        elif m := re.match(star + r"=\s*([\w:]+)\(" + star + r",?(.*?)\)\s*;$", body, re.S):
-            form, core, passed = "whole", m.group(1), m.group(2)
-        else: die("the body is of no form that is known here")
-    elif ref == "shr":
-        m = re.match(r"([\w:]+)\(\s*\*" + hname + r"\s*,?(.*?)\)$", body, re.S) or die("the body is not `CORE(*head, ..)`")
-        form, core, passed = "read", m.group(1), m.group(2)
+        m = re.match(r"let\s+(\w+)\s*=\s*([\w:]+)\(" + star + r",?(.*?)\)\s*;" + star + r"=\s*\1\.(\w+)\s*;\s*\1\.(\w+)$", body, re.S) or die("the body is not `let out = CORE(*head, ..); *head = out.HEAD; out.RESULT`")
+        core, passed, hfield, rfield = m.group(2), m.group(3), m.group(4), m.group(5)
     else:
-        m = re.match(r"([\w:]+)\((.*?)\)$", body, re.S) or die("the body is not `let t = TABLE(links); CORE(..)`")
-        form, core, passed = "middle", m.group(1), m.group(2)
-    expect = [tname if table and i == li else x for i, (x, _) in enumerate(params)]
-    if [x.strip() for x in passed.split(",") if x.strip()] != expect[1 if ref else 0:]: die("the parameters are not passed on in their order")
+        m = re.match(r"([\w:]+)\(\s*\*" + hname + r"\s*,?(.*?)\)$", body, re.S) or die("the body is not `CORE(*head, ..)`")
+        core, passed = m.group(1), m.group(2)
+    expect = [tname if i == li else x for i, (x, _) in enumerate(params)]
+    if [x.strip() for x in passed.split(",") if x.strip()] != expect[1:]: die("the parameters are not passed on in their order")
     G = callee(F, core)
     where = {}
     for _, t in params:
-        if m := re.match(r"&?\s*(?:mut\s+)?\[?\s*(" + STRUCT + r")\s*(?:;\s*\d+\s*)?\]?$", t): where[last(m.group(1))] = home(F, m.group(1))
-    head = last(re.sub(r"^&\s*(mut\s+)?", "", params[0][1])) if ref else None
+        if m := re.match(r"&?\s*(?:mut\s+)?\[?\s*(" + STRUCT + r")\s*\]?$", t): where[last(m.group(1))] = home(F, m.group(1))
+    head = last(re.sub(r"^&\s*(mut\s+)?", "", params[0][1]))
     outcome = G.res
     if ref == "mut":
         where.setdefault(outcome, home(G, outcome))
-        if form != "whole":
-            fs = [x for x, _ in fields(where[outcome][0], outcome)]
-            hk = fs.index(hfield)
-        if form == "field": rk = fs.index(rfield)
-        if form == "made":
-            if [x for x, _ in made] != [x for x, _ in fields(home(F, result)[0], result)]: die("the result's fields are not in their order")
-            mk = [fs.index(y) for _, y in made]
-        if form == "whole" and (outcome != head or result != "()"): die("the core does not hand back the record alone")
-    if result not in W and result not in ("bool", "()"): where.setdefault(result, home(F, result))
-    if table: where.setdefault(table.res, home(table, table.res))
+        fs = [x for x, _ in fields(where[outcome][0], outcome)]
+        hk, rk = fs.index(hfield), fs.index(rfield)
+    if result not in W: where.setdefault(result, home(F, result))
+    where.setdefault(table.res, home(table, table.res))
     short = lambda t: re.sub(r"(?:\w+::)+([A-Z]\w*)", r"\1", t)
     params = [(x, short(t)) for x, t in params]
 
     # ---- types: a row, its machine values, that they are told, its law, and that what it owns is had for nothing
     alias = {}
-    def is_enum(t): return any(re.search(r"\benum\s+" + t + r"\b", x) for x in of(where[t][0]).values())
     def name(t):
         if t not in where: die(f"the type {t} is not known")
         if t not in alias: alias[t] = "T" if t == head else "O" if ref == "mut" and t == outcome else "R" if t == result else f"the-{t}"
         return alias[t]
     def row(t):
-        if t in W or t == "bool": return t
-        if m := re.match(r"\[\s*(\w+)\s*;\s*(\d+)\s*\]$", t): return f"(Array {row(m.group(1))} {m.group(2)})"
-        return f"{name(t)}.the-row"
+        return t if t in W else f"{name(t)}.the-row"
     def law(t, what):
         """what: vals, tells, lawful, makes"""
         if t in W: return (f"uint-{what} " if what in ("vals", "tells") else f"uint-{what} 𝓤 H A W ") + W[t]
-        if t == "bool": return f"bool-{what}" + ("" if what in ("vals", "tells") else " 𝓤 H A W")
-        if m := re.match(r"\[\s*(\w+)\s*;\s*(\d+)\s*\]$", t):
-            e, n_ = m.group(1), m.group(2)
-            return {"vals": lambda: f"array-vals ({law(e, 'vals')})", "tells": lambda: f"array-tells {row(e)} ({law(e, 'vals')}) ({law(e, 'tells')}) {n_}", "lawful": lambda: f"array-lawful 𝓤 H A W {row(e)} ({law(e, 'lawful')}) {n_}"}.get(what, lambda: die("a result that is an array is not known here: put it into a struct"))()
-        x, laws = name(t), "EL" if is_enum(t) else "LL"
-        if what == "makes": return f"{laws}.makes {x}.the-type {x}′.the-plain 𝓤 H A"
-        return f"{laws}.{what} {x}.the-type {x}′.the-laws" + (" 𝓤 H A W" + (" tt" if laws == "EL" else "") if what == "lawful" else "")
+        if what == "makes": return f"LL.makes {name(t)}.the-type {name(t)}′.the-plain 𝓤 H A"
+        return f"LL.{what} {name(t)}.the-type {name(t)}′.the-laws" + (" 𝓤 H A W" if what == "lawful" else "")
     typed = lambda t, x, is_: f"{law(t, 'lawful')} .typed {x} _ {is_} .0"
     own = lambda t, x, v, is_: f"owned ! {row(t)} (Is {row(t)}) ({law(t, 'makes')}) {x} {v} {is_} $"
 
@@ -320,18 +287,16 @@ def gen_call(F):
     kinds = []
     for _, t in params:
         if m := re.match(r"&\s*(mut)?\s*\[\s*(\w+)\s*\]$", t): kinds.append(("mut" if m.group(1) else "shr", m.group(2)))
-        elif m := re.match(r"&\s*(mut\b)?\s*(\[.*\]|\w+)$", t): kinds.append(("mutref" if m.group(1) else "shrref", m.group(2)))
+        elif m := re.match(r"&\s*(mut\b)?\s*(\w+)$", t): kinds.append(("mutref" if m.group(1) else "shrref", m.group(2)))
         else: kinds.append(("value", t))
     P = len(kinds)                              # parameters: _1 .. _P
     nxt = P + 1                                 # locals after them: the table, the outcome, the record passed
-    if table: tl = nxt; nxt += 1
+    tl = nxt; nxt += 1
     if ref == "mut": out = nxt; nxt += 1
-    if ref: hc = nxt; nxt += 1
+    hc = nxt; nxt += 1
     lends = {}                                  # then, for each `&mut` that is lent on, its pointer and the slice
     for i, (kd, _) in enumerate(kinds):
-        if ref and i == 0: continue
         if kd == "mut": lends[i + 1] = (nxt, nxt + 1); nxt += 2
-        if kd == "mutref": lends[i + 1] = (nxt, nxt); nxt += 1
     n = nxt
     pos = lambda base, i: base + 2 * (n - 1 - i)
     spelled, tells = [], []
@@ -340,16 +305,11 @@ def gen_call(F):
         if kd == "value": tells.append(law(t, "tells"))
         else: tells.append(f"{kd[:3]}-{'slice-' if kd in ('mut', 'shr') else ''}tells (named {lft_of[i]}) (κs{proj(lft_of[i])}) {row(t)}")
     room = lambda i: f"record {{ fits = are{proj(i - 1)} .0 .1 .0 }}"
-    x = 1 if table else 0
-    skip = (1 if ref else 0) + x                # the lifetimes that the core does not take
-    ck, cq = f"(κs{ones(skip)})", f"(qs{ones(skip)})"
+    ck, cq = "(κs .1 .1)", "(qs .1 .1)"         # the lifetimes that the core takes
     # what the core is passed
-    front = (["h"] if ref else [f"a{proj(i)}" for i in range(li)]) + ([f"{tspec} xs"] if table else [])
-    used_up = len(front)
-    args = "(" + ", (".join(front) + f", a{ones(used_up)}" + ")" * len(front)
-    vfront = (["LL.vals T.the-type T′.the-laws h"] if ref else [f"vals{proj(i)}" for i in range(li)]) + (["u ∷ []"] if table else [])
-    core_vals = "(" + ", (".join(vfront) + f", vals{ones(used_up)}" + ")" * len(vfront)
-    callees = ["core"] + (["table"] if table else [])
+    args = f"(h, ({tspec} xs, a .1 .1))"
+    core_vals = "(LL.vals T.the-type T′.the-laws h, (u ∷ [], vals .1 .1))"
+    callees = ["core", "table"]
 
     B = []
     w = B.append
@@ -369,29 +329,27 @@ def gen_call(F):
     w("  abbrev Post : Val → SProp 𝓤")
     w("  Post = walkOf 𝓤 H A f.ended stayed (f.clauses 𝓤 H A mem run) .post ((κs, qs, tt, a, vals), tt)")
     w("")
-    if ref:
-        w("  -- the record behind the reference")
-        w(f"  abbrev h : {head}")
-        w("  h = a .0 .now")
-        w("")
-    if table:
-        elem, lk = kinds[li][1], lft_of[li]
-        w("  -- the slice that is made a table, its list, its token and what it owns")
-        w(f"  abbrev s : RefT (List {elem})")
-        w(f"  s = a{proj(li)}")
-        w("")
-        w(f"  abbrev xs : List {elem}")
-        w("  xs = s .now")
-        w("")
-        w("  abbrev Lent : Item 𝓤")
-        w(f"  Lent = Token 𝓤 H A W {row(elem)} (κs{proj(lk)}) (qs{proj(lk)}) s")
-        w("")
-        w("  abbrev Owned : Item 𝓤")
-        w(f"  Owned = ‵ (Own 𝓤 H A W {row(elem)} (κs{proj(lk)}) (qs{proj(lk)}) s)")
-        w("")
-        w("  abbrev to-table : Of 𝓤 H A table.ended (table.clauses 𝓤 H A mem run) .Ghost")
-        w(f"  to-table = (((κs{proj(lk)}, tt), (qs{proj(lk)}, tt), tt, (s, tt), (slice-vals s, tt)), tt)")
-        w("")
+    w("  -- the record behind the reference")
+    w(f"  abbrev h : {head}")
+    w("  h = a .0 .now")
+    w("")
+    elem, lk = kinds[li][1], lft_of[li]
+    w("  -- the slice that is made a table, its list, its token and what it owns")
+    w(f"  abbrev s : RefT (List {elem})")
+    w(f"  s = a{proj(li)}")
+    w("")
+    w(f"  abbrev xs : List {elem}")
+    w("  xs = s .now")
+    w("")
+    w("  abbrev Lent : Item 𝓤")
+    w(f"  Lent = Token 𝓤 H A W {row(elem)} (κs{proj(lk)}) (qs{proj(lk)}) s")
+    w("")
+    w("  abbrev Owned : Item 𝓤")
+    w(f"  Owned = ‵ (Own 𝓤 H A W {row(elem)} (κs{proj(lk)}) (qs{proj(lk)}) s)")
+    w("")
+    w("  abbrev to-table : Of 𝓤 H A table.ended (table.clauses 𝓤 H A mem run) .Ghost")
+    w(f"  to-table = (((κs{proj(lk)}, tt), (qs{proj(lk)}, tt), tt, (s, tt), (slice-vals s, tt)), tt)")
+    w("")
     w("  -- what the core is passed, and the tokens that it takes")
     w(f"  abbrev args : Args core.signature {ck}")
     w(f"  args = {args}")
@@ -404,24 +362,19 @@ def gen_call(F):
     w("    walk =")
     I = "        "
     bo = "(a .0 .ptr .0) (a .0 .ptr .1)"
-    toks = "Tokens"
-    if table: toks = f"‵ (flft (κs{proj(lft_of[li])}) (qs{proj(lft_of[li])})) ⊛ Tokens"
-    if ref: toks = f"‵ (flft (κs .0) (qs .0)) ⊛ {toks}"
+    toks = "‵ (flft (κs .0) (qs .0)) ⊛ ‵ (flft (κs .1 .0) (qs .1 .0)) ⊛ Tokens"
     w(I + f"qed W ((({toks}) ⊛ ‵ (owns (typesAt (f.signature .params) κs) a vals)) ∷ raw (f.clauses 𝓤 H A mem run κs a .requires tt) ∷ []) ∵ split ! $ split ! $ move ! (2 ∷ []) $ fsplit ! $")
     if ref == "mut":
         w(I + "fsplit3 ! $ drop ! $ move ! (0 ∷ 1 ∷ 3 ∷ []) $")
         w(I + "-- [obs; the borrow; the record's token; what the other parameters own; their tokens; what is required]")
-        if table: w(I + "move ! (3 ∷ []) $ fsplit ! $ move ! (5 ∷ []) $ split ! $ nothing ! $ move ! (1 ∷ 0 ∷ []) $ join ! $ move ! (4 ∷ 5 ∷ 6 ∷ 3 ∷ 1 ∷ 7 ∷ []) $")
+        w(I + "move ! (3 ∷ []) $ fsplit ! $ move ! (5 ∷ []) $ split ! $ nothing ! $ move ! (1 ∷ 0 ∷ []) $ join ! $ move ! (4 ∷ 5 ∷ 6 ∷ 3 ∷ 1 ∷ 7 ∷ []) $")
         m_ = 3
-    elif ref == "shr":
+    else:
         w(I + "fsplit3 ! $ drop ! $ drop ! $ move ! (0 ∷ 2 ∷ []) $")
         w(I + "-- [the fractured borrow; the record's token; what the other parameters own; their tokens; what is required]")
-        if table: w(I + "move ! (2 ∷ []) $ fsplit ! $ move ! (4 ∷ []) $ split ! $ nothing ! $ move ! (1 ∷ 0 ∷ []) $ join ! $ move ! (4 ∷ 5 ∷ 3 ∷ 1 ∷ 6 ∷ []) $")
+        w(I + "move ! (2 ∷ []) $ fsplit ! $ move ! (4 ∷ []) $ split ! $ nothing ! $ move ! (1 ∷ 0 ∷ []) $ join ! $ move ! (4 ∷ 5 ∷ 3 ∷ 1 ∷ 6 ∷ []) $")
         m_ = 2
-    else:
-        w(I + "drop ! $ fsplit ! $ " * li + "nothing ! $ move ! (3 ∷ 0 ∷ []) $ join ! $ move ! (2 ∷ 3 ∷ 4 ∷ []) $")
-        m_ = 0
-    if table: w(I + f"-- [{'obs; the borrow; ' if ref == 'mut' else 'the fractured borrow; ' if ref else ''}{'the record' + chr(39) + 's token; ' if ref else ''}what the others own; their tokens; what is required; the slice's token; what it owns]")
+    w(I + f"-- [{'obs; the borrow' if ref == 'mut' else 'the fractured borrow'}; the record's token; what the others own; their tokens; what is required; the slice's token; what it owns]")
     w(I + "enter ! C Λ code.function (flat (typesAt (f.signature .params) κs) vals) _ $")
     w(I + " ".join(f"alloc1 ! (λ l{sub_(i)}." for i in range(n)) + " alloc0 ! $ params1 ! $")
     parens = n
@@ -429,20 +382,16 @@ def gen_call(F):
         j = i + 1
         ev = f"(tt, (tt, ({room(j)}, tt)))" if kd in ("mut", "shr") else "(tt, tt)" if kd != "value" else "(" + typed(t, f"(a{proj(i)})", f"(are{proj(i)})") + ")"
         w(I + f"pass1 ! (init ! {pos(0, j)} refl {ev}) $" + (" pass0 ! $" if i == P - 1 else ""))
-    if table:
-        tt_ = table.res
-        w(I + f"-- the table: the slice is lent to `{table.name}`, and what it hands back is taken at `{tspec} xs`")
-        w(I + f"move ! {list_([2*n+m_+3, 2*n+m_+4])} $ use2 W (raw (Of 𝓤 H A table.ended (table.clauses 𝓤 H A mem run) .pre to-table) ⊛ Owned) (lends 𝓤 H A W {row(elem)} (κs{proj(lk)}) (qs{proj(lk)}) s) $ split ! $")
-        w(I + f"calls-for ! fm table.ended (table.clauses 𝓤 H A mem run) known-table to-table Lent (id⊢ 𝓤 _) (λ t. t ≡ {tspec} xs) (λ t e. id⊢ 𝓤 _) {operands([pos(2, li+1)])} (λ u t e told.")
-        parens += 1
-        w(I + f"let tabled = subst (λ (z : {tt_}). Is {row(tt_)} z (u ∷ [])) e told in")
-        w(I + f"land ! (from ! (stop !)) (init ! {pos(2, tl)} refl ({typed(tt_, 't', 'told')})) $ move ! (1 ∷ []) $ drop ! $")
-        w(I + f"-- [the slice's token; _{n-1} at 1; …]")
+    tt_ = table.res
+    w(I + f"-- the table: the slice is lent to `{table.name}`, and what it hands back is taken at `{tspec} xs`")
+    w(I + f"move ! {list_([2*n+m_+3, 2*n+m_+4])} $ use2 W (raw (Of 𝓤 H A table.ended (table.clauses 𝓤 H A mem run) .pre to-table) ⊛ Owned) (lends 𝓤 H A W {row(elem)} (κs{proj(lk)}) (qs{proj(lk)}) s) $ split ! $")
+    w(I + f"calls-for ! fm table.ended (table.clauses 𝓤 H A mem run) known-table to-table Lent (id⊢ 𝓤 _) (λ t. t ≡ {tspec} xs) (λ t e. id⊢ 𝓤 _) {operands([pos(2, li+1)])} (λ u t e told.")
+    parens += 1
+    w(I + f"let tabled = subst (λ (z : {tt_}). Is {row(tt_)} z (u ∷ [])) e told in")
+    w(I + f"land ! (from ! (stop !)) (init ! {pos(2, tl)} refl ({typed(tt_, 't', 'told')})) $ move ! (1 ∷ []) $ drop ! $")
+    w(I + f"-- [the slice's token; _{n-1} at 1; …]")
     def reborrow(base):
         for p, (i, j) in lends.items():
-            if i == j:
-                w(I + f"assigns ! (addr ! (from ! (hop ! (look ! {pos(base, p)} refl) (stop !)))) (from ! (stop !)) (init ! {pos(base, i)} refl (tt, tt)) $")
-                continue
             w(I + f"assigns ! (addr ! (from ! (fld ! refl (hop ! (look-in ! {pos(base, p)} (sub ! 0 refl (whole !))) (stop !))))) (from ! (stop !)) (init ! {pos(base, i)} refl (tt, tt)) $")
             w(I + f"assigns ! (agg ! (and-then ! {LOAD(pos(base, i))} (and-then ! (load ! (from ! (fld ! refl (stop !))) (look-in ! {pos(base, p)} (sub ! 1 refl (whole !)))) (no-more !)))) (from ! (stop !)) (init ! {pos(base, j)} refl (tt, (tt, ({room(p)}, tt)))) $")
     def the_call(base, rrow):
@@ -450,13 +399,11 @@ def gen_call(F):
         nonlocal parens
         end = base + 2 * n                      # what the others own; their tokens; what is required
         w(I + "-- the call")
-        if table: w(I + f"{own(table.res, f'({tspec} xs)', '(u ∷ [])', 'tabled')} move ! {list_([0, end+1])} $ fjoin ! $")
-        if ref: w(I + f"{own(head, 'h', '_', 'was')} " + ("" if table else f"move ! {list_([0, end+1])} $ ") + "fjoin ! $")
-        else:
-            for i in reversed(range(li)): w(I + f"{own(kinds[i][1], f'(a{proj(i)})', '_', f'(are{proj(i)})')} fjoin ! $")
+        w(I + f"{own(table.res, f'({tspec} xs)', '(u ∷ [])', 'tabled')} move ! {list_([0, end+1])} $ fjoin ! $")
+        w(I + f"{own(head, 'h', '_', 'was')} fjoin ! $")
         w(I + f"move ! {list_([end+1, 0, end+2])} $")
         w(I + f"calls-on ! fm core.ended (core.clauses 𝓤 H A mem run) known-core {ck} {cq} tt args {core_vals} tt")
-        locs = [hc if ref and i == 0 else tl if table and i == li else lends[i+1][1] if i + 1 in lends else i + 1 for i in range(P)]
+        locs = [hc if i == 0 else tl if i == li else lends[i+1][1] if i + 1 in lends else i + 1 for i in range(P)]
         w(I + f"{operands([pos(base + 1, i) for i in locs])} (λ w r ws. peeks ! {rrow} (Is {rrow}) (shows 𝓤 H A {rrow}) r (w ∷ []) (λ is.")
         parens += 2
     def frees(base): w(I + f"returns ! (look ! {pos(base,0)} refl) $ " + " $ ".join(f"gone ! {pos(base,i)} refl refl" for i in range(n)) + " $ free0 ! $")
@@ -464,8 +411,8 @@ def gen_call(F):
     # a contract in other words than the core's
     rename = []
     for i, ((c, _), (x_, t_)) in enumerate(zip(G.ps, params)):
-        if ref and i == 0: rename.append((r"(?<![\w.])" + c + r"(?!\w| \.e)", f"now ({x_} .entry)"))
-        elif table and i == li: rename.append((r"(?<![\w.])" + c + r"(?!\w| \.e)", f"({tspec} (now ({x_} .entry)))"))
+        if i == 0: rename.append((r"(?<![\w.])" + c + r"(?!\w| \.e)", f"now ({x_} .entry)"))
+        elif i == li: rename.append((r"(?<![\w.])" + c + r"(?!\w| \.e)", f"({tspec} (now ({x_} .entry)))"))
         elif c != x_: rename.append((r"(?<![\w.])" + c + r"(?!\w)", x_))
     proof, same = restated(F, G, [(a, b.replace("now (", "(now (", 1) + ")" if b.startswith("now (") else b) for a, b in rename])
     leave = lambda v, r, ws: f"by ! (leaves 𝓤 H A W f.ended stayed (f.clauses 𝓤 H A mem run) ((κs, qs, tt, a, vals), tt) {v} {r} {ws} {fits})" + ")" * parens
@@ -473,65 +420,44 @@ def gen_call(F):
         if not proof: return leave(v, r, ws)
         return (f"\n{I}-- the core's words are taken to this function's\n{I}move ! (3 ∷ []) $ use1 W (raw (f.clauses 𝓤 H A mem run κs a .ensures tt {r} (atExit f.ended κs a {ws}))) (restated 𝓤 (λ e. " + (f"({proof})" if ", " in proof else proof) + f")) $ move ! (1 ∷ 2 ∷ 3 ∷ []) $\n{I}" + leave(v, r, ws))
     if ref == "mut":
-        w(I + f"move ! {list_([x+2*n, x+2*n+1, x+2*n+2])} $ opened ! tt T.the-type T′.the-laws h {bo} (λ was.")
+        w(I + f"move ! {list_([2*n+1, 2*n+2, 2*n+3])} $ opened ! tt T.the-type T′.the-laws h {bo} (λ was.")
         parens += 1
-        w(I + f"-- [the record's cell; the open borrow; obs; auth; {'the slice' + chr(39) + 's token; ' if table else ''}_{n-1} at {4+x}; …; _1 at {pos(4+x,1)}; …; room for _0; …; what the others own at {4+x+2*n}; their tokens; what is required]")
-        w(I + f"assigns ! (of-opd ! (load ! (from ! (hop ! (look ! {pos(4+x,1)} refl) (stop !))) (look-raw ! 0 refl))) (from ! (stop !)) (init ! {pos(4+x,hc)} refl ({typed(head, 'h', 'was')})) $")
-        reborrow(4 + x)
+        w(I + f"-- [the record's cell; the open borrow; obs; auth; the slice's token; _{n-1} at 5; …; _1 at {pos(5, 1)}; …; room for _0; …; what the others own at {5+2*n}; their tokens; what is required]")
+        w(I + f"assigns ! (of-opd ! (load ! (from ! (hop ! (look ! {pos(5, 1)} refl) (stop !))) (look-raw ! 0 refl))) (from ! (stop !)) (init ! {pos(5, hc)} refl ({typed(head, 'h', 'was')})) $")
+        reborrow(5)
         o = name(outcome)
-        the_call(4 + x, f"{o}.the-row")
-        b8 = 8 + x
-        if form == "whole":
-            hval, hf, rval, rf, hplace = "r", "head-is", "tt", "refl", f"(from ! (stop !)) (look ! {pos(b8,out)} refl)"
-            w(I + "let head-is = subst (λ (us : List Val). Is T.the-row r us) (LL.tells T.the-type T′.the-laws r _ is) is in")
-        else:
-            w(I + f"let fields = LL.owed {o}.the-type {o}′.the-laws r _ is in")
-            hval, hf = f"(r .{hfield})", f"(fields{proj(hk)})"
-            hplace = f"(from ! (fld ! refl (stop !))) (look-in ! {pos(b8,out)} (sub ! {hk} refl (whole !)))"
-        w(I + f"-- [what the outcome owns; the last values; what the core ensures; the tokens; the record's cell at 4; the open borrow; obs; auth; {'the slice' + chr(39) + 's token; ' if table else ''}_{n-1} at {b8}; …]")
-        w(I + f"landed ! {pos(b8,out)} {o}.the-type {o}′.the-laws r is (from ! (stop !)) refl ({typed(outcome, 'r', 'is')}) $")
-        w(I + f"assigns ! (of-opd ! (load ! {hplace})) (from ! (hop ! (look ! {pos(b8,1)} refl) (stop !))) (store-raw ! 4 refl ({typed(head, hval, hf)})) $")
-        at = lambda i: f"(load ! (from ! (fld ! refl (stop !))) (look-in ! {pos(b8,out)} (sub ! {i} refl (whole !))))"
-        if form == "field":
-            rval, rf = f"(r .{rfield})", f"(fields{proj(rk)})"
-            w(I + f"assigns ! (of-opd ! {at(rk)}) (from ! (stop !)) (init ! {pos(b8,0)} refl ({typed(result, rval, rf)})) $")
-        elif form == "made":
-            rval = "(record { " + "; ".join(f"{p} = r .{q}" for p, q in made) + " })"
-            rf = f"(LL.owes {name(result)}.the-type {name(result)}′.the-laws {rval} {tup(['fields' + proj(i) for i in mk])})"
-            w(I + "assigns ! (agg ! " + "".join(f"(and-then ! {at(i)} " for i in mk) + "(no-more !)" + ")" * len(mk) + f") (from ! (stop !)) (init ! {pos(b8,0)} refl ({typed(result, rval, rf)})) $")
-        else:
-            w(I + f"assigns ! (of-opd ! (unit-lit !)) (from ! (stop !)) (init ! {pos(b8,0)} refl (tt, tt)) $")
+        the_call(5, f"{o}.the-row")
+        b9 = 9
+        w(I + f"let fields = LL.owed {o}.the-type {o}′.the-laws r _ is in")
+        hval, hf = f"(r .{hfield})", f"(fields{proj(hk)})"
+        hplace = f"(from ! (fld ! refl (stop !))) (look-in ! {pos(b9,out)} (sub ! {hk} refl (whole !)))"
+        w(I + f"-- [what the outcome owns; the last values; what the core ensures; the tokens; the record's cell at 4; the open borrow; obs; auth; the slice's token; _{n-1} at {b9}; …]")
+        w(I + f"landed ! {pos(b9,out)} {o}.the-type {o}′.the-laws r is (from ! (stop !)) refl ({typed(outcome, 'r', 'is')}) $")
+        w(I + f"assigns ! (of-opd ! (load ! {hplace})) (from ! (hop ! (look ! {pos(b9,1)} refl) (stop !))) (store-raw ! 4 refl ({typed(head, hval, hf)})) $")
+        at = lambda i: f"(load ! (from ! (fld ! refl (stop !))) (look-in ! {pos(b9,out)} (sub ! {i} refl (whole !))))"
+        rval, rf = f"(r .{rfield})", f"(fields{proj(rk)})"
+        w(I + f"assigns ! (of-opd ! {at(rk)}) (from ! (stop !)) (init ! {pos(b9, 0)} refl ({typed(result, rval, rf)})) $")
         w(I + "-- the borrow is closed at the record that the core handed back")
         w(I + f"move ! (4 ∷ 5 ∷ 6 ∷ 7 ∷ []) $ closed ! tt T.the-type T′.the-laws T′.the-plain {hval} {hf} {bo} $")
-        w(I + f"-- [obs; the borrow; the record's token; what the outcome owns; the last values; what the core ensures; the tokens; {'the slice' + chr(39) + 's token; ' if table else ''}_{n-1} at {7+x}; …]")
-        frees(7 + x)
+        w(I + f"-- [obs; the borrow; the record's token; what the outcome owns; the last values; what the core ensures; the tokens; the slice's token; _{n-1} at 8; …]")
+        frees(8)
         w(I + "feqI ! (List Val) (vals .0) (vals .0) refl $ fjoin3 ! $ move ! (3 ∷ []) $ fsplit ! $ drop ! $ move ! (1 ∷ 0 ∷ []) $ fjoin ! $")
-        if table: w(I + "move ! (5 ∷ []) $ split ! $ move ! (1 ∷ []) $ drop ! $ move ! (0 ∷ 5 ∷ []) $ join ! $ move ! (2 ∷ 0 ∷ []) $ join ! $")
-        else: w(I + "move ! (1 ∷ 4 ∷ []) $ join ! $")
-        rown = "owned ! unit (Is unit) (nothing-makes 𝓤 H A W) tt _ refl $" if form == "whole" else own(result, rval, "_", rf)
+        w(I + "move ! (5 ∷ []) $ split ! $ move ! (1 ∷ []) $ drop ! $ move ! (0 ∷ 5 ∷ []) $ join ! $ move ! (2 ∷ 0 ∷ []) $ join ! $")
         w(I + "-- [the tokens; what is had of the parameters; what the outcome owns; what the core ensures]")
-        w(I + f"{rown} keep ! (1 ∷ 2 ∷ 0 ∷ 4 ∷ []) $ " + leaves("_", rval, f"({hval.strip('()')}, ws .1)"))
-    elif ref == "shr":
-        w(I + f"move ! {list_([x+2*n, x+2*n+1])} $ peeked ! tt T.the-type T′.the-laws T′.the-copy h {bo} (λ q′ was.")
-        parens += 1
-        w(I + f"-- [a share of the record's cell; what it owns; what shuts it; the fractured borrow; {'the slice' + chr(39) + 's token; ' if table else ''}_{n-1} at {4+x}; …]")
-        w(I + f"assigns ! (of-opd ! (load ! (from ! (hop ! (look ! {pos(4+x,1)} refl) (stop !))) (look-raw ! 0 refl))) (from ! (stop !)) (init ! {pos(4+x,hc)} refl ({typed(head, 'h', 'was')})) $")
-        w(I + f"shuts ! tt T.the-row q′ h (LL.vals T.the-type T′.the-laws h) {bo} $")
-        w(I + f"-- [the record's token; the fractured borrow; {'the slice' + chr(39) + 's token; ' if table else ''}_{n-1} at {2+x}; …; what the others own at {2+x+2*n}; their tokens; what is required]")
-        reborrow(2 + x)
-        the_call(2 + x, row(result))
-        w(I + f"-- [what the result owns; the last values; what the core ensures; the tokens; the record's token; the fractured borrow; {'the slice' + chr(39) + 's token; ' if table else ''}_{n-1} at {6+x}; …]")
-        w(I + f"land ! (from ! (stop !)) (init ! {pos(6+x,0)} refl ({typed(result, 'r', 'is')})) $")
-        frees(6 + x)
-        if table: w(I + "move ! (6 ∷ []) $ split ! $ move ! (0 ∷ 5 ∷ []) $ join ! $ move ! (5 ∷ 0 ∷ []) $ join ! $ keep ! (0 ∷ 3 ∷ 2 ∷ 4 ∷ []) $ " + leaves("w", "r", "(tt, ws .1)"))
-        else: w(I + "move ! (4 ∷ 3 ∷ []) $ join ! $ keep ! (0 ∷ 2 ∷ 1 ∷ 3 ∷ []) $ " + leaves("w", "r", "(tt, ws .1)"))
+        w(I + f"{own(result, rval, '_', rf)} keep ! (1 ∷ 2 ∷ 0 ∷ 4 ∷ []) $ " + leaves("_", rval, f"({hval.strip('()')}, ws .1)"))
     else:
-        reborrow(x)
-        the_call(x, row(result))
-        w(I + f"-- [what the result owns; the last values; what the core ensures; the tokens; the slice's token; _{n-1} at {4+x}; …]")
-        w(I + f"land ! (from ! (stop !)) (init ! {pos(4+x,0)} refl ({typed(result, 'r', 'is')})) $")
-        frees(4 + x)
-        w(I + "move ! (4 ∷ []) $ split ! $ move ! (0 ∷ 5 ∷ []) $ join ! $ keep ! (0 ∷ 3 ∷ 2 ∷ 4 ∷ []) $ " + leaves("w", "r", "ws"))
+        w(I + f"move ! {list_([2*n+1, 2*n+2])} $ peeked ! tt T.the-type T′.the-laws T′.the-copy h {bo} (λ q′ was.")
+        parens += 1
+        w(I + f"-- [a share of the record's cell; what it owns; what shuts it; the fractured borrow; the slice's token; _{n-1} at 5; …]")
+        w(I + f"assigns ! (of-opd ! (load ! (from ! (hop ! (look ! {pos(5, 1)} refl) (stop !))) (look-raw ! 0 refl))) (from ! (stop !)) (init ! {pos(5, hc)} refl ({typed(head, 'h', 'was')})) $")
+        w(I + f"shuts ! tt T.the-row q′ h (LL.vals T.the-type T′.the-laws h) {bo} $")
+        w(I + f"-- [the record's token; the fractured borrow; the slice's token; _{n-1} at 3; …; what the others own at {3+2*n}; their tokens; what is required]")
+        reborrow(3)
+        the_call(3, row(result))
+        w(I + f"-- [what the result owns; the last values; what the core ensures; the tokens; the record's token; the fractured borrow; the slice's token; _{n-1} at 7; …]")
+        w(I + f"land ! (from ! (stop !)) (init ! {pos(7, 0)} refl ({typed(result, 'r', 'is')})) $")
+        frees(7)
+        w(I + "move ! (6 ∷ []) $ split ! $ move ! (0 ∷ 5 ∷ []) $ join ! $ move ! (5 ∷ 0 ∷ []) $ join ! $ keep ! (0 ∷ 3 ∷ 2 ∷ 4 ∷ []) $ " + leaves("w", "r", "(tt, ws .1)"))
     kn = " ".join(f"known-{c}" for c in callees)
     triples = " → ".join(f"Triple 𝓤 (𝓣 .C #{c}) (Of 𝓤 H A {c}.ended ({c}.clauses 𝓤 H A mem run))" for c in callees)
     w("")
@@ -548,18 +474,17 @@ def gen_call(F):
     w(f"meets : {MODEL} → Given 𝓤 H A → (mem : Memory → SProp 𝓤) (run : Routine → Fun 𝓤) (𝓣 : Tables 𝓤 H) → {triples}")
     w("    → Meets 𝓤 H A f.signature (WpFn 𝓤 H (𝓣 .C) (𝓣 .Λ) code.function) (f.spec 𝓤 H A mem run)")
     w(f"meets 𝓤 H A W mem run 𝓣 {kn} = walk-meets 𝓤 H A f.ended stayed W (goes 𝓤 H A W mem run) (f.clauses 𝓤 H A mem run) (WpFn 𝓤 H (𝓣 .C) (𝓣 .Λ) code.function) (WpFn-mono 𝓤 H (W .laws) 𝓣 code.function) (walks 𝓤 H A W mem run (𝓣 .C) (𝓣 .Λ) (fmOf 𝓤 H (W .laws) 𝓣) {kn})")
-    B += closing(F, [f"({cited('core', G)})"] + ([f"({cited('table', table)})"] if table else []))
+    B += closing(F, [f"({cited('core', G)})"] + [f"({cited('table', table)})"])
     full = "::".join((crate,) + F.path)
     L = []
     w = L.append
-    then = f"the slice `{params[li][0]}` is lent to `{table.name}`, " if table else ""
+    then = f"the slice `{params[li][0]}` is lent to `{table.name}`, "
     if ref == "mut": w(f"-- `{full}` meets its contract: {then}the borrow of `{hname}` is opened, the record is copied out, `{G.name}` is called, the record that it hands back is stored, and the borrow is closed at it.")
-    elif ref == "shr": w(f"-- `{full}` meets its contract: {then}the borrow of `{hname}` is looked into, the record is copied out, the borrow is shut again, and `{G.name}` is called.")
-    else: w(f"-- `{full}` meets its contract: {then}and `{G.name}` is called.")
+    else: w(f"-- `{full}` meets its contract: {then}the borrow of `{hname}` is looked into, the record is copied out, the borrow is shut again, and `{G.name}` is called.")
     w(f"-- The other parameters go to `{G.name}` as they are, and what its contract says of them at exit is what this function says (`Wrap.antt`). All that the proof knows of a callee is that it meets its contract.")
     w(MARK)
     L += imports("\n".join(B))
-    if table: w(f"use {spec(table, tspec)}.{{{tspec}}}")
+    w(f"use {spec(table, tspec)}.{{{tspec}}}")
     if same: w(f"use Rattle.{crate}.proofs.Laws.{{{', '.join(same)}}}")
     body_text = "\n".join(B)
     for t in sorted(where):
@@ -568,7 +493,7 @@ def gen_call(F):
         w(f"use {proofs(*where[t])} as {a_}")
         if f"{a_}′." in body_text: w(f"use {proofs(*where[t])}.Laws as {a_}′")
     L += cites("core", G)
-    if table: L += cites("table", table)
+    L += cites("table", table)
     L += mine(F)
     return re.sub(r" +$", "", "\n".join(L + B), flags=re.M)
 
@@ -590,41 +515,6 @@ def last_lines(F, goes, vals, tells, walk):
         f"meets : {MODEL} → Given 𝓤 H A → (mem : Memory → SProp 𝓤) (run : Routine → Fun 𝓤) (𝓣 : Tables 𝓤 H)",
         "    → Meets 𝓤 H A f.signature (WpFn 𝓤 H (𝓣 .C) (𝓣 .Λ) code.function) (f.spec 𝓤 H A mem run)",
         f"meets 𝓤 H A W mem run 𝓣 = walk-meets 𝓤 H A f.ended stayed W {goes} (f.clauses 𝓤 H A mem run) (WpFn 𝓤 H (𝓣 .C) (𝓣 .Λ) code.function) (WpFn-mono 𝓤 H (W .laws) 𝓣 code.function) (walks 𝓤 H A W mem run (𝓣 .C) (𝓣 .Λ))"] + closing(F, [])
-
-def gen_count(F):
-    s, S, at = slice_of(F)
-    B = f"""
-abbrev stayed : Stays (f.ended .signature .params) (f.ended .kept)
-stayed = ({STAY}, tt)
-
-module _ {GIVEN} (κ : Lft) (q : Share) (s : RefT (List {S})) where
-  abbrev n : ℕ
-  n = length (s .now)
-
-  abbrev v : Val
-  v = sliceVal (s .ptr) n
-
-  abbrev Post : Val → SProp 𝓤
-  Post = walkOf 𝓤 H A f.ended stayed (f.clauses 𝓤 H A mem run) .post (((κ, tt), (q, tt), tt, (s, tt), (v ∷ [], tt)), tt)
-
-  exits : n < 2 ^ 64 → ent 𝓤 (⋆ 𝓤 H A ((‵ (flft κ q) ⊛ ‵ ftrue) ∷ ‵ (owns (ShrSlice (named 0) κ T.the-row ∷ []) (s, tt) (v ∷ [], tt)) ∷ [])) (Post (vint w64 n))
-  exits g =
-      qed W ((‵ (flft κ q) ⊛ ‵ ftrue) ∷ ‵ (owns (ShrSlice (named 0) κ T.the-row ∷ []) (s, tt) (v ∷ [], tt)) ∷ []) ∵
-      suffices ! _ (ends-at 𝓤 H A f.ended stayed (f.clauses 𝓤 H A mem run) W (((κ, tt), (q, tt), tt, (s, tt), (v ∷ [], tt)), tt) (vint w64 n) n (tt, tt) (tt, tt)) $ says ! refl $
-      frame ! $ frame ! $ owned ! usize (Is usize) (uint-makes 𝓤 H A W w64) n _ (refl, g) $ done !
-
-  module _ (C : Calls 𝓤 H) (Λ : Loops 𝓤 H) where
-    walk : Room T.the-row n → ent 𝓤 (onEntry 𝓤 H A f.signature (κ, tt) (q, tt) (s, tt) (v ∷ [], tt)) (WpFn 𝓤 H C Λ code.function (v ∷ []) Post)
-    walk g =
-        qed W ((‵ (flft κ q) ⊛ ‵ ftrue) ∷ ‵ (owns (ShrSlice (named 0) κ T.the-row ∷ []) (s, tt) (v ∷ [], tt)) ∷ []) ∵ enter ! C Λ code.function (v ∷ []) _ $
-        alloc1 ! (λ l₀. alloc1 ! (λ l₁. alloc0 ! $ params1 ! $ pass1 ! (init ! 0 refl (tt, (tt, (record {{ fits = g .0 }}, tt)))) $ pass0 ! $
-        -- [_1; …; room for _0; …; the token; what s owns]
-        assigns ! (of-opd ! (load ! (from ! (fld ! refl (stop !))) (look-in ! 0 (sub ! 1 refl (whole !))))) (from ! (stop !)) (init ! 2 refl (tt, record {{ fits = g .0 }})) $
-        returns ! (look ! 2 refl) $ forget ! 0 refl $ forget ! 2 refl $ move ! (2 ∷ 3 ∷ []) $ free1 ! $ free1 ! $ free0 ! $ by ! (exits (g .0))))""".split("\n")
-    B += last_lines(F, f"({GOES}, tt)", "(slice-vals, tt)", "(shr-slice-tells (named 0) (κs .0) T.the-row, tt)", "via 𝓤 _ (fst∗ 𝓤 _ (emp 𝓤)) (walk 𝓤 H A W mem run (κs .0) (qs .0) (a .0) C Λ (are .0 .0 .1))")
-    L = title(F, "the count is field 1 of the slice reference's own struct; no element is read.")
-    L += imports("\n".join(B)) + [f"use {specs(*at)}.{{{S}}}", f"use {proofs(*at)} as T"] + mine(F)
-    return "\n".join(L + B)
 
 def gen_at(F):
     s, S, at = slice_of(F)
@@ -911,7 +801,6 @@ module _ {GIVEN} (𝓣 : Tables 𝓤 H) (known : Known 𝓤 H A mem run (𝓣 .C
 def gen(F):
     flat_ = re.sub(r"\s+", " ", F.body)
     sl = slice_of(F)
-    if sl and len(F.ps) == 1 and flat_ == f"{sl[0]}.len()" and F.res == "usize": return gen_count(F)
     if sl and len(F.ps) == 2 and F.ps[1][1] == "usize" and flat_ == f"{sl[0]}[{F.ps[1][0]}]" and F.res == sl[1]: return gen_at(F)
     if sl and len(F.ps) == 1 and re.match(TABLE, flat_): return gen_table(F)
     return gen_call(F)
@@ -927,17 +816,14 @@ def main():
     if not of(crate): sys.exit(f"walkgen: no sources of {crate}")
     if len(sys.argv) == 3:
         want = sys.argv[2]
-        owner = want.split("::")[-2] if "::" in want and want.split("::")[-2][0].isupper() else None
-        try: print(gen(find_fn(crate, last(want), owner) or die("not found")))
+        try: print(gen(find_fn(crate, want) or die("not found")))
         except Unknown as e: sys.exit(f"walkgen: {e}")
         return
     bad = 0
     for mod, text in list(of(crate).items()):
         for m in re.finditer(r"\bfn\s+(\w+)\s*(?:<[^>]*>)?\(", text):
-            want, own = m.group(1), None
-            for im in re.finditer(r"^impl\s+(\w+)\s*\{.*?^\}", text, re.S | re.M):
-                if im.start() < m.start() < im.end(): own = im.group(1)
-            F = find_fn(crate, want, own)
+            want = m.group(1)
+            F = find_fn(crate, want)
             if not F or not walked(F): continue
             path = f"crates/{crate}/proofs/{'/'.join(F.path)}/Proof.antt"
             if os.path.exists(path) and MARK not in open(path, encoding="utf-8").read():

@@ -86,7 +86,8 @@ int main(void)
     static const struct gcr_link looped = {3, 3, 10}, many[GCR_LINKS + 1];
     printf("no link refused %u\n", gcr_set_up(&head, links, 0, TABLES));
     printf("65 links refused %u\n", gcr_set_up(&head, many, GCR_LINKS + 1, TABLES));
-    printf("a short table refused %u\n", gcr_set_up(&head, LINKS, events, GCR_EVENTS - 1, free_figures, GCR_FREE_FIGURES, book, GCR_BOOK_FIGURES));
+    printf("a short table refused %u\n", gcr_set_up(&head, LINKS, events, GCR_EVENTS - 1, free_figures,
+                                                    GCR_FREE_FIGURES, book, GCR_BOOK_FIGURES));
     printf("equal ends refused %u\n", gcr_set_up(&head, &looped, 1, TABLES));
     offer_one(0, request(4, 10, 0, OPEN));
     if (gcr_set_up(&head, LINKS, TABLES) != 0)
