@@ -49,13 +49,11 @@ fn read_byte() -> FirstByte {
     }
 }
 
-// Puts the first byte into the buffer, reads as many link records behind it as it counts, and answers how many bytes
-// there are.
+// Reads as many link records as the first byte counts, to stand behind it; answers how many bytes there are then.
 fn read_records(first: &mut [u8], count: u8) -> usize
     requires { ⌜ length (now first) ≡ 2041 ⌝ }
     ensures { λ r. ⌜ r ≤ 2041 ⌝ }
 {
-    first[0] = count;
     let end = 1 + count as usize * LINK_BYTES;
     let records = io::read_full(STDIN_FILENO, &mut first[1..end]);
     1 + records
@@ -70,6 +68,7 @@ fn read_first(first: &mut [u8]) -> usize
     if byte.came == 0 {
         return 0;
     }
+    first[0] = byte.value;
     read_records(first, byte.value)
 }
 
