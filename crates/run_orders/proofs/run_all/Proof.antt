@@ -1,0 +1,72 @@
+-- `run_all` is safe and ends. The measure is the number of turns that are left; the tables keep their sizes.
+use mathlib.Core.Path.{_≡_}
+use lib.ListN.{length}
+use borrow.Author.Needs.{needs}
+use Rattle.run_orders.proofs.run_all.Statement.{statement}
+use Rattle.run_orders.proofs.run_all.Tie as tie
+
+abbrev Inv-loop : tie.InvT-loop
+Inv-loop links events₀ free₀ book₀ session₀ turns₀ events free book session turns =
+    (length events ≡ length events₀) × (length free ≡ length free₀) × (length book ≡ length book₀)
+
+abbrev μ-loop : tie.MeasureT-loop
+μ-loop links events₀ free₀ book₀ session₀ turns₀ events free book session turns = turns
+
+loop-holds : tie.Need-loop-holds Inv-loop μ-loop
+loop-holds c = search needs
+
+run-some-requires : tie.Need-run-some-requires Inv-loop μ-loop
+run-some-requires c κs = search needs
+
+sub-turns : tie.Need-sub-turns Inv-loop μ-loop
+sub-turns c = search needs
+
+loop-less : tie.Need-loop-less Inv-loop μ-loop
+loop-less c = search needs
+
+loop-again : tie.Need-loop-again Inv-loop μ-loop
+loop-again c = search needs
+
+same-length : tie.Need-same-length Inv-loop μ-loop
+same-length c = search needs
+
+same-length-2 : tie.Need-same-length-2 Inv-loop μ-loop
+same-length-2 c = search needs
+
+same-length-3 : tie.Need-same-length-3 Inv-loop μ-loop
+same-length-3 c = search needs
+
+returns : tie.Need-returns Inv-loop μ-loop
+returns c = search needs
+
+same-length-4 : tie.Need-same-length-4 Inv-loop μ-loop
+same-length-4 c = search needs
+
+same-length-5 : tie.Need-same-length-5 Inv-loop μ-loop
+same-length-5 c = search needs
+
+same-length-6 : tie.Need-same-length-6 Inv-loop μ-loop
+same-length-6 c = search needs
+
+returns-2 : tie.Need-returns-2 Inv-loop μ-loop
+returns-2 c = search needs
+
+pub run-all-spec : {M : Type 1} → statement M
+run-all-spec =
+    tie.close
+    (tie.spec
+    Inv-loop
+    μ-loop
+    loop-holds
+    run-some-requires
+    sub-turns
+    loop-less
+    loop-again
+    same-length
+    same-length-2
+    same-length-3
+    returns
+    same-length-4
+    same-length-5
+    same-length-6
+    returns-2)
