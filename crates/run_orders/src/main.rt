@@ -1,7 +1,6 @@
 // The program: a session of orders from standard input to standard output, in large blocks. It decides nothing: what a
 // desk and an order are answered, and how the line reads, is in the crate `orders`. Any input ends in an orderly way; a
 // read that fails ends the input.
-use desk_core::LinkTable;
 use libc::STDIN_FILENO;
 use libc::STDOUT_FILENO;
 use orders::Line;
@@ -13,6 +12,7 @@ use units::BOOK_FIGURES;
 use units::EVENTS;
 use units::FREE_FIGURES;
 use units::Head;
+use units::LinkTable;
 use units::Minute;
 ghost use mathlib.Core.Path.{_≡_};
 ghost use Prim.Native.Nat.{_+_, _≤_, _<_};
