@@ -1,13 +1,11 @@
 -- On fine tables the chooser may be asked, and what it answers is the plain book's best start.
 use mathlib.Core.Path.{_≡_, refl, sym, _∙_, ap, ap₂}
-use mathlib.Core.List.{List}
-use mathlib.Core.Bool.{Bool, true, false, and-eq-true-iff}
+use mathlib.Core.Bool.{false, and-eq-true-iff}
 use borrow.Author.Tests.{not-true, ltb-true}
 use Prim.Native.Nat.{ℕ, _-_, _≤_, _<_, max}
 use native.Mathlib.Omega.{arith}
 use lib.ListN.{length, take, replicate}
 use lib.Seq.{take-append-seam}
-use Rattle.units.specs.declared.Link.{Link}
 use Rattle.units.specs.declared.Minute.{Minute}
 use Rattle.units.specs.declared.Request.{Request}
 use Rattle.units.specs.Limits.{most-links, most-hops, most-bookings, last-number}
@@ -26,55 +24,40 @@ use Rattle.choice.specs.Answer.{Askable}
 use Rattle.choice.specs.Answer as answers
 use Rattle.choice.proofs.Figures.{choose-agree, carries-shown}
 use Rattle.units.specs.declared.LinkTable.{LinkTable}
-use Rattle.desk_core.specs.Plain.{Booking, Plain, terms, graph, free, carries, low}
+use Rattle.desk_core.specs.Plain.{Booking, terms, graph, free, carries, low}
 use Rattle.desk_core.specs.Calls.{Ask, starts, refuse, best, stands, number-ok, request-ok, own-checks}
 use Rattle.desk_core.specs.Calls.{chosen as desk-chosen}
-use Rattle.desk_core.specs.Tables.{Tables, held, tables, event-table, free-table}
+use Rattle.desk_core.specs.Tables.{Tables, held}
 use Rattle.units.specs.LinkTables.{links-of}
 use Rattle.desk_core.specs.Lent.{ends-of}
-use Rattle.desk_core.specs.Sound.{Obeys}
 use Rattle.desk_core.specs.Updating.{Fine, booked, Grantable}
 use Rattle.desk_core.proofs.Checks.{Passed}
 use Rattle.desk_core.proofs.Choices.{GoodGrant, good-best}
 use Rattle.desk_core.proofs.Step.{obeys-booked}
 use Rattle.desk_core.proofs.Uses.{all-times, free-changes}
-use Rattle.desk_core.proofs.Tests.{Sized, sized-tells, RequestRight, link-right}
-use Rattle.desk_core.proofs.Obeys.{sound-obeys, sound-tables}
+use Rattle.desk_core.proofs.Tests.{RequestRight, link-right}
+use Rattle.desk_core.proofs.InOrder.{sizes, book-obeys, events-are, free-are}
 use Rattle.desk_core.proofs.LinkColumns.{links-count, from-column, to-column}
 
 module _ (links : LinkTable) (t : Tables) (f : Fine (links-of links) t) where
-  sizes : Sized (links-of links) t
-  sizes = sized-tells (links-of links) t .0 (f .is-sized)
-
-  obeys : Obeys (links-of links) (held t)
-  obeys = sound-obeys (links-of links) t (f .is-sound)
-
   pub few-links : links .count ≤ most-links
-  few-links = rw (← (links-count links)) (sizes .links-right .1)
-
-  events-are : t .events ≡ event-table (held t)
-  unfolding tables
-  events-are = ap (λ x. x .events) (sound-tables (links-of links) t (f .is-sound))
-
-  free-are : t .free ≡ free-table (links-of links) (held t)
-  unfolding tables
-  free-are = ap (λ x. x .free) (sound-tables (links-of links) t (f .is-sound))
+  few-links = rw (← (links-count links)) (sizes f .links-right .1)
 
   ends-in-range : InRange (ends-of links)
   ends-in-range = record {
     few = few-links;
-    from-node = λ l h. rw (← (from-column links l h)) (link-right (links-of links) (obeys .links-right) l (rw (links-count links) h) .from-right);
-    to-node = λ l h. rw (← (to-column links l h)) (link-right (links-of links) (obeys .links-right) l (rw (links-count links) h) .to-right);
+    from-node = λ l h. rw (← (from-column links l h)) (link-right (links-of links) (book-obeys f .links-right) l (rw (links-count links) h) .from-right);
+    to-node = λ l h. rw (← (to-column links l h)) (link-right (links-of links) (book-obeys f .links-right) l (rw (links-count links) h) .to-right);
   }
 
   module _ (r : Request) (q : RequestRight r) where
     pub best-asks : Askable (ends-of links) (t .events) (t .free) (r .duration .0) (max (r .earliest .0) (t .head .clock .0)) (r .latest .0)
     best-asks = record {
       in-range = ends-in-range;
-      sized = record { events-sized = sizes .events-right; free-sized = sizes .free-right };
+      sized = record { events-sized = sizes f .events-right; free-sized = sizes f .free-right };
       clock = t .head .clock .0;
       times = all-times (held t);
-      are-events = events-are;
+      are-events = events-are f;
       not-past = omega arith;
       lasts = q .duration-right;
       in-time = q .latest-right;
@@ -100,8 +83,8 @@ module _ (links : LinkTable) (t : Tables) (f : Fine (links-of links) t) where
       where
         usable-same : (m l : ℕ) → t .head .clock .0 ≤ m → l < length (links-of links) → answers.carries (kept (t .events) (t .free)) (r .bandwidth .0) (r .duration .0) m l ≡ carries (links-of links) (held t) r m l
         usable-same m l a h =
-            ap₂ (λ es fr. answers.carries (kept es fr) (r .bandwidth .0) (r .duration .0) m l) events-are free-are
-            ∙ carries-shown (length (links-of links)) (free (links-of links) (held t)) (sizes .links-right .1) (t .head .clock .0) (all-times (held t)) (λ k j. free-changes (links-of links) (held t) k) (r .bandwidth .0) (r .duration .0) m l a h
+            ap₂ (λ es fr. answers.carries (kept es fr) (r .bandwidth .0) (r .duration .0) m l) (events-are f) (free-are f)
+            ∙ carries-shown (length (links-of links)) (free (links-of links) (held t)) (sizes f .links-right .1) (t .head .clock .0) (all-times (held t)) (λ k j. free-changes (links-of links) (held t) k) (r .bandwidth .0) (r .duration .0) m l a h
 
     -- a start that the chooser answers is the plain book's grant, with its path
     pub record Started (start : Minute) (path : Path) : Type 0 where
@@ -140,8 +123,8 @@ module _ (links : LinkTable) (t : Tables) (f : Fine (links-of links) t) where
       abbrev pub booking : Booking
       booking = record { number = number; terms = terms r; grant = s .grant }
 
-      good : GoodGrant (links-of links) (held t) r (obeys .links-right) q (s .grant)
-      good = good-best (links-of links) (held t) r (obeys .links-right) q (s .grant) (s .is-best)
+      good : GoodGrant (links-of links) (held t) r (book-obeys f .links-right) q (s .grant)
+      good = good-best (links-of links) (held t) r (book-obeys f .links-right) q (s .grant) (s .is-best)
 
       short : length (s .grant .path) ≤ most-hops
       short = good .is-path .length-right .1
@@ -154,7 +137,7 @@ module _ (links : LinkTable) (t : Tables) (f : Fine (links-of links) t) where
 
       pub grantable : Passed (own-checks (links-of links) (held t) (Ask.book number r)) → Grantable (links-of links) (held t) number r start path
       grantable checks = record {
-        booking-right = rw booked-is (obeys-booked (links-of links) (held t) obeys number r q in-range-number new room (s .grant) good .bookings-right .0);
+        booking-right = rw booked-is (obeys-booked (links-of links) (held t) (book-obeys f) number r q in-range-number new room (s .grant) good .bookings-right .0);
         path-is = s .path-is ∙ ap search.path-of (sym path-kept);
         room = room;
       }
@@ -170,9 +153,9 @@ module _ (links : LinkTable) (t : Tables) (f : Fine (links-of links) t) where
 
   -- a link of the list has a figure in every row, and it is what the plain book leaves free
   pub figure-asks : (l : ℕ) → l < links .count → table-sizes.Sized (t .events) (t .free) l
-  figure-asks l h = record { events-sized = sizes .events-right; free-sized = sizes .free-right; column = let f = few-links in omega arith }
+  figure-asks l h = record { events-sized = sizes f .events-right; free-sized = sizes f .free-right; column = let f = few-links in omega arith }
 
   pub figure-is : (l m : ℕ) → l < links .count → t .head .clock .0 ≤ m → kept (t .events) (t .free) l m ≡ free (links-of links) (held t) l m
   figure-is l m h k =
-      rw (events-are, free-are)
-      (kept-figure (length (links-of links)) (free (links-of links) (held t)) (sizes .links-right .1) (t .head .clock .0) (all-times (held t)) l m (free-changes (links-of links) (held t) l) (rw (links-count links) h) k)
+      rw (events-are f, free-are f)
+      (kept-figure (length (links-of links)) (free (links-of links) (held t)) (sizes f .links-right .1) (t .head .clock .0) (all-times (held t)) l m (free-changes (links-of links) (held t) l) (rw (links-count links) h) k)

@@ -1,7 +1,7 @@
 -- The ways out of a call: what its outcome is where a check is not passed, and where all are.
 use mathlib.Core.Path.{_≡_, refl, sym, _∙_, ap}
 use mathlib.Core.List.{List, [], _∷_}
-use mathlib.Core.Bool.{Bool, true, false}
+use mathlib.Core.Bool.{true, false}
 use Prim.Native.Nat.{ℕ, zero, suc, _≤_}
 use native.Mathlib.Omega.{arith}
 use Rattle.units.specs.declared.Link.{Link}
@@ -9,7 +9,7 @@ use Rattle.units.specs.declared.Head.{Head}
 use Rattle.choice.specs.declared.ChoiceRecord.{ChoiceRecord}
 use Rattle.desk_core.specs.Plain.{Plain}
 use Rattle.desk_core.specs.Calls.{Ask, book, offer, cancel, move-clock, show, Call, set-up, ask, Answer, done, refuse, values, Check, check, checked, first-refusal, own-checks, result, answer}
-use Rattle.desk_core.specs.Tables.{Tables, Outcome, sized, links-ok, sound, held, table-checks, answer-on, left-by, outcome}
+use Rattle.desk_core.specs.Tables.{Tables, Outcome, sized, links-ok, sound, held, answer-on, left-by, outcome}
 use Rattle.desk_core.specs.Lent.{lent, granted, shown, granted-answer, shown-answer, refusal-answer, head-after, events-after, free-after, book-after}
 use Rattle.desk_core.proofs.Checks.{Passed, passed-answer, stopped-answer}
 

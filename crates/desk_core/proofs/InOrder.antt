@@ -15,7 +15,6 @@ use Rattle.units.proofs.Tests.{Rising}
 use Rattle.units.proofs.Permuted.{all-permuted}
 use Rattle.units.proofs.Parts.{select-part, map-part, rising-part}
 use Rattle.units.proofs.Padded.{Rows}
-use Rattle.timeline.specs.Events.{further as one-further}
 use Rattle.book.specs.declared.Booking.{Booking as Place}
 use Rattle.book.specs.declared.Standing.{Standing}
 use Rattle.book.specs.declared.Standing.the-variants.{At}
@@ -30,25 +29,16 @@ use Rattle.desk_core.specs.Updating.{Fine}
 use Rattle.desk_core.proofs.Book.{by-number-is, by-number-fixed, Short, place-rows}
 use Rattle.desk_core.proofs.Tests.{Sized, sized-tells}
 use Rattle.desk_core.proofs.Obeys.{sound-facts, sound-obeys, sound-tables, held-count, all-short}
-use Rattle.desk_core.proofs.Updates.{book-slot, book-split, book-without}
+use Rattle.desk_core.proofs.Updates.{book-split, book-without}
 
 -- ---- the place of a number
 
-slot-among-is : (n : ℕ) (cs : List Booking) → slot-among n (numbers cs) ≡ book-slot n cs
-unfolding slot-among book-slot
-slot-among-is n [] = refl
-slot-among-is n (c ∷ cs) = by (leb (c .number) n) (slot-among-is n cs)
-  where
-    by : (x : Bool) → slot-among n (numbers cs) ≡ book-slot n cs → further x (slot-among n (numbers cs)) ≡ one-further x (book-slot n cs)
-    by true ih = ap suc ih
-    by false ih = refl
-
-slot-most : (n : ℕ) (cs : List Booking) → book-slot n cs ≤ length cs
-unfolding book-slot
+slot-most : (n : ℕ) (cs : List Booking) → slot-among n (numbers cs) ≤ length cs
+unfolding slot-among
 slot-most n [] = omega arith
 slot-most n (c ∷ cs) = by (leb (c .number) n) (slot-most n cs)
   where
-    by : (x : Bool) → book-slot n cs ≤ length cs → one-further x (book-slot n cs) ≤ suc (length cs)
+    by : (x : Bool) → slot-among n (numbers cs) ≤ length cs → further x (slot-among n (numbers cs)) ≤ suc (length cs)
     by true ih = omega arith
     by false ih = omega arith
 
@@ -142,11 +132,10 @@ module _ {links : List Link} {t : Tables} (fine : Fine links t) where
   -- ---- a booking put in at the place of its number
 
   module _ (b : Booking) (short : Short b) (room : length (held t .bookings) < most-bookings) where
-    slot-is : slot (b .number) (t .book) (t .head .bookings) ≡ book-slot (b .number) (held t .bookings)
+    slot-is : slot (b .number) (t .book) (t .head .bookings) ≡ slot-among (b .number) (numbers (held t .bookings))
     slot-is =
         ap₂ (λ (book : List ℕ) n. slot (b .number) book n) book-filled (sym (held-count t))
         ∙ slot-filled place (held t .bookings) rows-right (b .number)
-        ∙ slot-among-is (b .number) (held t .bookings)
 
     pub slot-inside : slot (b .number) (t .book) (t .head .bookings) < most-bookings
     slot-inside = omega (arith, slot-is, slot-most (b .number) (held t .bookings))
@@ -162,7 +151,7 @@ module _ {links : List Link} {t : Tables} (fine : Fine links t) where
         bookings = held t .bookings
 
         k : ℕ
-        k = book-slot (b .number) bookings
+        k = slot-among (b .number) (numbers bookings)
 
         ordered : by-number (b ∷ bookings) ≡ take k bookings ++ (b ∷ drop k bookings)
         ordered = ap (insert-by-number b) (by-number-fixed 0 bookings in-order) ∙ book-split b bookings

@@ -11,7 +11,7 @@ use Rattle.units.specs.declared.Request.{Request}
 use Rattle.units.specs.declared.Link.{Link}
 use Rattle.units.specs.Limits.{most-bookings, last-minute, last-shown}
 use Rattle.units.specs.Lists.{within, member, count-from}
-use Rattle.units.specs.Search.{Found, at, nothing, firstFrom}
+use Rattle.units.specs.Search.{firstFrom}
 use Rattle.units.proofs.Search.{first-here, first-after}
 use Rattle.units.proofs.Padded.{length-count}
 use Rattle.book.specs.declared.Standing.{Standing}

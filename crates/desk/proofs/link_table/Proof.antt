@@ -228,8 +228,8 @@ link-table-spec 𝓤 H 𝓜 𝓖 𝓡 =
     (tables 𝓤 H 𝓜 𝓡 code.env .C) (tables 𝓤 H 𝓜 𝓡 code.env .Λ) #f code.function (code.unfolded 𝓤 H 𝓜 𝓡)
     (meets 𝓤 H (𝓖 .A) (givenOf 𝓤 H 𝓜 𝓖) (𝓜 .mem) (𝓡 .run) (tablesOf 𝓤 H 𝓜 (tables 𝓤 H 𝓜 𝓡 code.env))
     record {
-      limit = cited 𝓤 H (Of 𝓤 H (𝓖 .A) limit.ended (limit.clauses 𝓤 H (𝓖 .A) (𝓜 .mem) (𝓡 .run))) 𝓜 𝓡 code.env #limit limit-def.routine code.calls-desk-core·at-most-64 (limit-thm.met 𝓤 H 𝓜 𝓖 𝓡);
-      empty = cited 𝓤 H (Of 𝓤 H (𝓖 .A) empty.ended (empty.clauses 𝓤 H (𝓖 .A) (𝓜 .mem) (𝓡 .run))) 𝓜 𝓡 code.env #empty empty-def.routine code.calls-desk-core·empty-table (empty-thm.met 𝓤 H 𝓜 𝓖 𝓡);
+      limit = cited 𝓤 H (Of 𝓤 H (𝓖 .A) limit.ended (limit.clauses 𝓤 H (𝓖 .A) (𝓜 .mem) (𝓡 .run))) 𝓜 𝓡 code.env #limit limit-def.routine code.calls-units·at-most-64 (limit-thm.met 𝓤 H 𝓜 𝓖 𝓡);
+      empty = cited 𝓤 H (Of 𝓤 H (𝓖 .A) empty.ended (empty.clauses 𝓤 H (𝓖 .A) (𝓜 .mem) (𝓡 .run))) 𝓜 𝓡 code.env #empty empty-def.routine code.calls-units·empty-table (empty-thm.met 𝓤 H 𝓜 𝓖 𝓡);
       fetch = cited 𝓤 H (Of 𝓤 H (𝓖 .A) fetch.ended (fetch.clauses 𝓤 H (𝓖 .A) (𝓜 .mem) (𝓡 .run))) 𝓜 𝓡 code.env #fetch fetch-def.routine code.calls-desk·link-at (fetch-thm.met 𝓤 H 𝓜 𝓖 𝓡);
-      put = cited 𝓤 H (Of 𝓤 H (𝓖 .A) put.ended (put.clauses 𝓤 H (𝓖 .A) (𝓜 .mem) (𝓡 .run))) 𝓜 𝓡 code.env #put put-def.routine code.calls-desk-core·put (put-thm.met 𝓤 H 𝓜 𝓖 𝓡);
+      put = cited 𝓤 H (Of 𝓤 H (𝓖 .A) put.ended (put.clauses 𝓤 H (𝓖 .A) (𝓜 .mem) (𝓡 .run))) 𝓜 𝓡 code.env #put put-def.routine code.calls-units·put (put-thm.met 𝓤 H 𝓜 𝓖 𝓡);
     })

@@ -1,9 +1,6 @@
 -- `best_start` meets its contract: the chooser is asked at low.
-use mathlib.Core.Path.{_≡_, refl, sym, ap, _∙_}
-use native.Mathlib.Omega.{arith}
+use mathlib.Core.Path.{_∙_}
 use borrow.Author.Needs.{needs}
-use borrow.Author.Tests.{not-true, not-false}
-use denote.Ref.{now}
 use Rattle.desk_core.proofs.best_start.Statement.{statement}
 use Rattle.desk_core.proofs.best_start.Tie as tie
 

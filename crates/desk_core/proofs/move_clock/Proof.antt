@@ -1,8 +1,7 @@
 -- `move_clock` meets its contract: each way out is one of the outcome's.
-use mathlib.Core.Path.{_≡_, refl, sym, ap, _∙_}
+use mathlib.Core.Path.{_≡_, refl, sym, _∙_}
 use native.Mathlib.Omega.{arith}
 use borrow.Author.Needs.{needs}
-use borrow.Author.Tests.{not-true, not-false}
 use denote.Ref.{now}
 use Prim.Native.Nat.{ℕ}
 use Rattle.desk_core.specs.Calls.{Ask, ask, done}

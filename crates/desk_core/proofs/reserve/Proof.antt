@@ -1,10 +1,7 @@
 -- `reserve` meets its contract: each way out is one of the outcome's; the start is the plain book's best, and it is entered.
 use mathlib.Core.Path.{_≡_, refl, sym, ap, ap₂, _∙_}
-use native.Mathlib.Omega.{arith}
 use borrow.Author.Needs.{needs}
-use borrow.Author.Tests.{not-true, not-false}
 use denote.Ref.{now}
-use Prim.Native.Nat.{ℕ}
 use Rattle.choice.specs.declared.StartChoice.the-variants.{Start}
 use Rattle.choice.specs.Answer.{values-of}
 use Rattle.desk_core.specs.Tables.{held}

@@ -1,8 +1,8 @@
 -- `book_refusal` meets its contract: the tests are those of the definition, in its order.
-use mathlib.Core.Path.{_≡_, sym, _∙_, ap}
-use mathlib.Core.Bool.{not, true, false}
+use mathlib.Core.Path.{_≡_, sym, _∙_}
+use mathlib.Core.Bool.{true}
 use borrow.Author.Needs.{needs}
-use borrow.Author.Tests.{le-ltb, lt-ltb, not-true, not-false}
+use borrow.Author.Tests.{not-true, not-false}
 use denote.Ref.{now}
 use mathlib.Core.List.{[]}
 use Rattle.desk_core.specs.Calls.{Ask, checked, number-ok, first-refusal, own-checks}

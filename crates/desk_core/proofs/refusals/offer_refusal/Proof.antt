@@ -1,8 +1,7 @@
 -- `offer_refusal` meets its contract: the tests are those of the definition, in its order.
-use mathlib.Core.Path.{_≡_, sym, _∙_, ap}
+use mathlib.Core.Path.{sym, _∙_}
 use borrow.Author.Needs.{needs}
 use borrow.Author.Tests.{lt-leb, le-leb, not-true, not-false}
-use Prim.Native.Nat.{_≤_, _<_}
 use Rattle.desk_core.specs.Calls.{checked}
 use Rattle.desk_core.proofs.refusals.offer_refusal.Statement.{statement}
 use Rattle.desk_core.proofs.refusals.offer_refusal.Tie as tie
