@@ -9,7 +9,7 @@ use desk_tests::plain::Desk;
 use desk_tests::sessions::fullest;
 use desk_tests::tables::{self, Tables};
 use desk_tests::{exported, Request};
-use timing::compare;
+use timing::{compare, nanoseconds};
 
 const TURNS: u32 = 20;
 
@@ -37,9 +37,31 @@ fn time(what: &str, desk: &Desk, proved: impl Fn(&mut Tables) -> bool, plain: im
     compare(what, TURNS, &mut ours, &mut theirs);
 }
 
+/// Nanoseconds of a public call that its core refuses at the first check, beside the whole call: what the list of links
+/// and the lent head cost over the core, at most.
+fn time_form(desk: &Desk) {
+    let full = tables::of(desk);
+    let mut short = full.clone();
+    short.events.pop();
+    let links = &desk.links;
+    let turns = |t: &Tables| {
+        for _ in 0..TURNS {
+            let _ = black_box(exported::show(links, black_box(t), 0, 500));
+        }
+    };
+    let (mut form, mut whole) = (f64::MAX, f64::MAX);
+    for _ in 0..25 {
+        form = form.min(nanoseconds(&mut || turns(&short)));
+        whole = whole.min(nanoseconds(&mut || turns(&full)));
+    }
+    let (form, whole) = (form / TURNS as f64, whole / TURNS as f64);
+    println!("form of a public call: {form:.0} ns of {whole:.0} ns, ratio to the core {:.4}", whole / (whole - form));
+}
+
 fn main() {
     let desk = fullest();
     let links = &desk.links;
+    time_form(&desk);
     let last = desk.bookings.iter().map(|booking| booking.number).max().expect("bookings");
     let path_end = links.iter().map(|link| link.to).max().expect("links");
     let request =

@@ -13,7 +13,8 @@ pub fn compare(what: &str, units: u32, mut ours: impl FnMut(), mut plain: impl F
     println!("{what}: proved {ours:.2} ns, plain Rust {plain:.2} ns, ratio {:.2}", ours / plain);
 }
 
-fn nanoseconds(work: &mut impl FnMut()) -> f64 {
+/// The nanoseconds that the work takes.
+pub fn nanoseconds(work: &mut impl FnMut()) -> f64 {
     let start = Instant::now();
     work();
     start.elapsed().as_nanos() as f64
