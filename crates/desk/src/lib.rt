@@ -1,10 +1,12 @@
-// The six calls of a desk in the forms that document 01 names, for C: the links lent for reading as a list of records, the
+// The seven calls of a desk in the forms that document 01 names, for C: the links lent for reading as a list of records, the
 // head lent and renewed where it stands, events, free figures and book as lent slices. Each call makes the list a table of
 // columns and hands it to its core in `desk_core`; nothing is decided here. Every call is answered for every input.
 // `tools/walkgen.py desk` prints the proofs.
 use choice::ChoiceRecord;
+use desk_core::Listed;
 use desk_core::Shown;
 use desk_core::cancel;
+use desk_core::list_starts;
 use desk_core::move_clock;
 use desk_core::offer;
 use desk_core::reserve;
@@ -25,7 +27,7 @@ ghost use lib.ListN.{length, getD};
 ghost use Rattle.desk_core.specs.Plain.{no-link};
 ghost use Rattle.desk_core.specs.Calls.{Ask, set-up, ask};
 ghost use Rattle.units.specs.LinkTables.{table-of};
-ghost use Rattle.desk_core.specs.Lent.{lent, granted-answer, shown-answer, refusal-answer, head-after, events-after, free-after, book-after};
+ghost use Rattle.desk_core.specs.Lent.{lent, granted-answer, listed-answer, list-after, shown-answer, refusal-answer, head-after, events-after, free-after, book-after};
 
 // Link `i` of the list.
 fn link_at(links: &[Link], i: usize) -> Link
@@ -108,6 +110,25 @@ pub extern "C" fn gcr_offer(
 {
     let table = link_table(links);
     offer(*head, table, events, free, book, request)
+}
+
+// Every start there is: the ranges of possible start minutes of an offer's window, first and last of each, written into the
+// list with zeros behind them; it writes no table. Refuses 1, 13, 3, 4 and 5, and then leaves the list as it came.
+#[no_mangle]
+pub extern "C" fn gcr_list_starts(
+    head: &Head,
+    links: &[Link],
+    events: &[u32],
+    free: &[u32],
+    book: &[u32],
+    request: Request,
+    list: &mut [u32],
+) -> Listed
+    ensures { λ r. ⌜ (r ≡ listed-answer (now (links .entry)) (lent (now (head .entry)) (now (events .entry)) (now (free .entry)) (now (book .entry))) (ask (Ask.list (length (now (list .entry))) request)))
+        × (now (list .exit) ≡ list-after (now (links .entry)) (lent (now (head .entry)) (now (events .entry)) (now (free .entry)) (now (book .entry))) (ask (Ask.list (length (now (list .entry))) request)) (now (list .entry))) ⌝ }
+{
+    let table = link_table(links);
+    list_starts(*head, table, events, free, book, request, list)
 }
 
 // Takes a booking out; its figures come back from the clock on. Refuses 1, 3, 4 and 9.

@@ -10,6 +10,7 @@ use units::FREE_FIGURES;
 use units::Head;
 use units::LAST_NODE;
 use units::LINKS;
+use units::LIST_FIGURES;
 use units::LinkTable;
 use units::MAX_BANDWIDTH;
 use units::MAX_DURATION;
@@ -19,12 +20,14 @@ use units::Minute;
 use units::Request;
 ghost use mathlib.Core.Path.{_≡_};
 ghost use mathlib.Core.List.{[]};
+ghost use mathlib.Core.Bool.{true};
 ghost use Prim.Native.Nat.{_*_, _≤_, max};
+ghost use lib.Dec.{eqb};
 ghost use lib.ListN.{length};
-ghost use Rattle.units.specs.Limits.{place-size};
+ghost use Rattle.units.specs.Limits.{place-size, list-size};
 ghost use Rattle.units.specs.Lists.{within};
 ghost use Rattle.desk_core.specs.Calls.{Ask, ends-ok, request-ok, first-refusal, own-checks};
-ghost use Rattle.desk_core.specs.Tables.{plain-in, sizes-ok, tables-refusal};
+ghost use Rattle.desk_core.specs.Tables.{plain-in, sizes-ok, lent-checks};
 ghost use Rattle.units.specs.LinkTables.{links-of};
 ghost use Rattle.desk_core.specs.Lent.{lent};
 
@@ -40,6 +43,8 @@ const TOO_LATE: u32 = 5;
 const NUMBER_STANDS: u32 = 6;
 
 const BOOK_FULL: u32 = 7;
+
+const BAD_LIST: u32 = 13;
 
 // Whether there are 1 to 64 links and the lent tables have the sizes that document 01 states.
 pub(crate) fn sized(links: usize, events: usize, free: usize, book: usize) -> bool
@@ -168,7 +173,7 @@ pub(crate) fn table_refusal(
     free: &[u32],
     book: &[u32],
 ) -> u32
-    ensures { λ r. ⌜ r ≡ tables-refusal (links-of links) (lent head (now (events .entry)) (now (free .entry)) (now (book .entry))) ⌝ }
+    ensures { λ r. ⌜ r ≡ first-refusal (lent-checks (links-of links) (lent head (now (events .entry)) (now (free .entry)) (now (book .entry))) true) ⌝ }
 {
     if !sized(links.count, events.len(), free.len(), book.len()) {
         return BAD_SIZE;
@@ -177,4 +182,24 @@ pub(crate) fn table_refusal(
         return UNSOUND;
     }
     0
+}
+
+// The same of a listing, which is lent a list too: its size is checked before whether the tables are sound.
+pub(crate) fn listing_refusal(
+    head: Head,
+    links: LinkTable,
+    events: &[u32],
+    free: &[u32],
+    book: &[u32],
+    list: usize,
+) -> u32
+    ensures { λ r. ⌜ r ≡ first-refusal (lent-checks (links-of links) (lent head (now (events .entry)) (now (free .entry)) (now (book .entry))) (eqb list list-size)) ⌝ }
+{
+    if !sized(links.count, events.len(), free.len(), book.len()) {
+        return BAD_SIZE;
+    }
+    if list != LIST_FIGURES {
+        return BAD_LIST;
+    }
+    table_refusal(head, links, events, free, book)
 }

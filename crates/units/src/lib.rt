@@ -49,6 +49,12 @@ pub const FREE_FIGURES: usize = EVENTS * ROW;
 
 pub const BOOK_FIGURES: usize = BOOKINGS * PLACE;
 
+// The most ranges of possible starts in a window: one begins at low, any other at an event after it.
+pub const RANGES: usize = EVENTS;
+
+// The figures of the list of ranges: first and last of each.
+pub const LIST_FIGURES: usize = RANGES * 2;
+
 // A point in time, in whole minutes.
 #[repr(C)]
 pub struct Minute(pub u32);
