@@ -3,7 +3,7 @@
 //! what document 01 asks of the call. A refused call writes nothing.
 
 use desk_tests::{Head, Link, Request};
-use desk_tests::{BOOKINGS, EVENTS, LINKS, NODES, PATH_LINKS, PLACE, ROW};
+use desk_tests::{BOOKINGS, EVENTS, LINKS, LIST_FIGURES, NODES, PATH_LINKS, PLACE, ROW};
 use desk_tests::{MAX_BANDWIDTH, MAX_CAPACITY, MAX_DURATION, MAX_END, MAX_MINUTE, MAX_NUMBER};
 
 // The fields of a place of the book; the path follows them.
@@ -77,6 +77,17 @@ pub fn offer(links: &[Link], tables: &Tables, request: &Request) -> Result<Start
     let events = check_tables(links, tables)?;
     check_request(tables.head.clock, request)?;
     choose(links, tables, events, request).ok_or(8)
+}
+
+/// Writes every start there is as ranges into the list, and answers their number. Refuses 1, 13, 3, 4, 5.
+pub fn list(links: &[Link], tables: &Tables, request: &Request, list: &mut [u32]) -> Result<u32, u32> {
+    check_sizes(links, tables)?;
+    if list.len() != LIST_FIGURES {
+        return Err(13);
+    }
+    let events = sound(links, tables).ok_or(3u32)?;
+    check_request(tables.head.clock, request)?;
+    Ok(list_ranges(links, tables, events, request, list))
 }
 
 /// Refuses 1, 3, 4, 9.
@@ -311,13 +322,7 @@ fn choose(links: &[Link], tables: &Tables, events: usize, request: &Request) -> 
     let events = &tables.events[..events];
     let low = request.earliest.max(tables.head.clock);
     let first = events.partition_point(|&event| event <= low) - 1;
-    // The links with enough bandwidth in each row.
-    let mut enough = [0u64; EVENTS];
-    for row in first..events.len() {
-        for (link, &figure) in tables.free[row * ROW..][..links.len()].iter().enumerate() {
-            enough[row] |= ((figure >= request.bandwidth) as u64) << link;
-        }
-    }
+    let enough = enough(links, tables, first, events.len(), request.bandwidth);
     let mut without_path = 0;
     for row in first..events.len() {
         let minute = events[row].max(low);
@@ -338,9 +343,78 @@ fn choose(links: &[Link], tables: &Tables, events: usize, request: &Request) -> 
     None
 }
 
-/// The best path over a set of links: rounds from the destination back find the nodes at each number of hops, and the path
-/// takes the lowest link that leads one hop nearer.
+/// The links with enough bandwidth in each row from the first on.
+fn enough(links: &[Link], tables: &Tables, first: usize, rows: usize, bandwidth: u32) -> [u64; EVENTS] {
+    let mut enough = [0u64; EVENTS];
+    for row in first..rows {
+        for (link, &figure) in tables.free[row * ROW..][..links.len()].iter().enumerate() {
+            enough[row] |= ((figure >= bandwidth) as u64) << link;
+        }
+    }
+    enough
+}
+
+/// Writes the ranges of possible starts with zeros behind them, and answers their number. Where no start is possible it
+/// tries the events, and where one is, the minutes at which the span's end meets an event.
+fn list_ranges(links: &[Link], tables: &Tables, events: usize, request: &Request, list: &mut [u32]) -> u32 {
+    let events = &tables.events[..events];
+    let &Request { from, to, bandwidth, duration, latest, .. } = request;
+    let low = request.earliest.max(tables.head.clock);
+    let first = events.partition_point(|&event| event <= low) - 1;
+    let enough = enough(links, tables, first, events.len(), bandwidth);
+    let mut searched = (0, false);
+    let mut possible = |minute: u32| {
+        let row = events.partition_point(|&event| event <= minute) - 1;
+        let span = events[row + 1..].iter().take_while(|&&event| event < minute + duration).count();
+        let usable = enough[row..=row + span].iter().fold(u64::MAX, |usable, set| usable & set);
+        if usable != searched.0 {
+            searched = (usable, rounds(links, usable, from, to).is_some());
+        }
+        searched.1
+    };
+    let mut count = 0;
+    let mut start = low;
+    loop {
+        let mut row = events.partition_point(|&event| event <= start);
+        let mut found = possible(start);
+        while !found && row < events.len() && events[row] <= latest {
+            start = events[row];
+            found = possible(start);
+            row += 1;
+        }
+        if !found {
+            break;
+        }
+        let ends = events.iter().filter(|&&event| start + duration <= event && event < latest + duration);
+        let stop = ends.map(|&event| event + 1 - duration).find(|&next| !possible(next));
+        let end = stop.unwrap_or(latest + 1);
+        list[2 * count..][..2].copy_from_slice(&[start, end - 1]);
+        count += 1;
+        start = end;
+        if latest < start {
+            break;
+        }
+    }
+    list[2 * count..].fill(0);
+    count as u32
+}
+
+/// The best path over a set of links: it takes the lowest link that leads one hop nearer.
 fn search(links: &[Link], usable: u64, from: u32, to: u32) -> Option<(Path, u32)> {
+    let (rounds, hops) = rounds(links, usable, from, to)?;
+    let mut path = [0; PATH_LINKS];
+    let mut node = from;
+    for (place, nearer) in rounds[..hops].iter().rev().enumerate() {
+        let leads = |&number: &usize| links[number].from == node && nearer >> links[number].to & 1 == 1;
+        let number = members(usable).find(leads).expect("a link leads nearer");
+        path[place] = number as u32;
+        node = links[number].to;
+    }
+    Some((path, hops as u32))
+}
+
+/// Rounds from the destination back, each with the nodes at its number of hops, up to the source's.
+fn rounds(links: &[Link], usable: u64, from: u32, to: u32) -> Option<([u32; NODES], usize)> {
     let mut rounds = [0u32; NODES];
     rounds[0] = 1 << to;
     let mut met = rounds[0];
@@ -358,15 +432,7 @@ fn search(links: &[Link], usable: u64, from: u32, to: u32) -> Option<(Path, u32)
         hops += 1;
         rounds[hops] = next;
     }
-    let mut path = [0; PATH_LINKS];
-    let mut node = from;
-    for (place, nearer) in rounds[..hops].iter().rev().enumerate() {
-        let leads = |&number: &usize| links[number].from == node && nearer >> links[number].to & 1 == 1;
-        let number = members(usable).find(leads).expect("a link leads nearer");
-        path[place] = number as u32;
-        node = links[number].to;
-    }
-    Some((path, hops as u32))
+    Some((rounds, hops))
 }
 
 /// The numbers of a set of links, rising.

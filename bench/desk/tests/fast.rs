@@ -7,11 +7,13 @@ use std::process::{Command, Stdio};
 use desk_bench::fast::{self, Start};
 use desk_tests::cases::cases;
 use desk_tests::damages::{damage, forged};
+use desk_tests::exported::listing;
 use desk_tests::lines::output;
+use desk_tests::listings::{self, KINDS};
 use desk_tests::plain::{self, Answer, Call, Desk};
 use desk_tests::sessions::{session, History};
 use desk_tests::tables::{self, Tables};
-use desk_tests::Link;
+use desk_tests::{Link, LIST_FIGURES};
 use support::Random;
 
 const SEED: u64 = 0x0DE5_5000;
@@ -31,6 +33,9 @@ fn run(links: &[Link], tables: &mut Tables, call: &Call) -> Answer {
             fast::book(links, lent, *number, request).map(|start| Answer::Booked(answered(start)))
         }
         Call::Offer(request) => fast::offer(links, lent, request).map(|start| Answer::Offered(answered(start))),
+        Call::List(figures, request) => {
+            listing(*figures, |list| fast::list(links, lent, request, list)).map(Answer::Listed)
+        }
         Call::Cancel(number) => fast::cancel(links, lent, *number).map(|()| Answer::Cancelled),
         Call::MoveClock(minute) => fast::move_clock(links, lent, *minute).map(|()| Answer::Moved),
         Call::Show { link, minute } => fast::show(links, lent, *link, *minute).map(Answer::Shown),
@@ -98,11 +103,35 @@ fn refused_alike(links: &[Link], mut tables: Tables, what: &str) {
     assert_eq!(run(links, &mut tables, &show), expected, "{what}");
     if let Answer::Refused(_) = expected {
         let request = desk_tests::Request::default();
-        for call in [Call::Cancel(1), Call::MoveClock(0), Call::Book(0, request), Call::Offer(request)] {
+        let list = Call::List(LIST_FIGURES, request);
+        for call in [Call::Cancel(1), Call::MoveClock(0), Call::Book(0, request), Call::Offer(request), list] {
             assert_eq!(run(links, &mut tables, &call), expected, "{what}, {call:?}");
         }
+        let another_length = Call::List(LIST_FIGURES + 1, request);
+        let first = if expected == Answer::Refused(3) { Answer::Refused(13) } else { expected };
+        assert_eq!(run(links, &mut tables, &another_length), first, "{what}, {another_length:?}");
     }
     assert!(tables == before, "a refusal writes, {what}");
+}
+
+#[test]
+fn listings_on_desks_of_many_kinds() {
+    let (mut count, mut ranges) = (0, 0);
+    for seed in SEED..SEED + 4_000 {
+        let mut random = Random::new(seed);
+        let kind = KINDS[seed as usize % KINDS.len()];
+        let desk = listings::desk(&mut random, kind);
+        let mut tables = tables::of(&desk);
+        for turn in 0..5 {
+            let request = listings::request(&mut random, kind, &desk);
+            let what = format!("seed {seed:#x}, turn {turn}, {request:?}");
+            let answer = run(&desk.links, &mut tables, &Call::List(LIST_FIGURES, request));
+            let Answer::Listed(listed) = answer else { panic!("{what}: {answer:?}") };
+            assert_eq!(listings::fault(&mut random, &desk, &request, &listed), None, "{what}");
+            (count, ranges) = (count + 1, ranges + listed.len());
+        }
+    }
+    println!("{count} listings with {ranges} ranges");
 }
 
 #[test]

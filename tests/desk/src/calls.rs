@@ -6,7 +6,7 @@ use support::Random;
 use crate::lines::OPEN;
 use crate::plain::{Call, Desk, Walk};
 use crate::{Link, Request};
-use crate::{LINKS, MAX_CAPACITY, MAX_DURATION, MAX_END, MAX_MINUTE, MAX_NUMBER, NODES};
+use crate::{LINKS, LIST_FIGURES, MAX_CAPACITY, MAX_DURATION, MAX_END, MAX_MINUTE, MAX_NUMBER, NODES};
 
 /// What the calls of a session or history are like.
 #[derive(Clone, Copy, Debug, PartialEq, Eq)]
@@ -34,6 +34,8 @@ pub const STYLES: [Style; 8] =
 
 /// No request may make the independent desk walk through more minutes than this, and no clock move pass more.
 const LONGEST_WALK: u32 = 1_500_000;
+/// The same for a listing, which never stops at a start.
+const LONGEST_LISTING: u32 = 50_000;
 
 /// Whether the book fills up.
 pub fn fills(style: Style) -> bool {
@@ -102,7 +104,7 @@ pub fn order(random: &mut Random, style: Style, desk: &Desk) -> Call {
     }
 }
 
-/// A random one of the six calls. Set-ups are rare, and one in three of them is bad.
+/// A random one of the seven calls. Set-ups are rare, and one in three of them is bad.
 pub fn call(random: &mut Random, style: Style, desk: &Desk) -> Call {
     match random.below(200) {
         0 => Call::SetUp(changed_net(random, style)),
@@ -119,17 +121,53 @@ pub fn call(random: &mut Random, style: Style, desk: &Desk) -> Call {
             };
             Call::Show { link: link as u32, minute }
         }
+        31..=50 => {
+            let figures = if random.once_in(20) { list_size(random) } else { LIST_FIGURES };
+            Call::List(figures, listed(random, style, desk))
+        }
         _ => {
             let mut call = order(random, style, desk);
             if let Call::Book(_, request) | Call::Offer(request) = &mut call {
-                // Only a record leaves the latest start open.
-                if request.latest == OPEN && !random.once_in(30) {
-                    request.latest = MAX_MINUTE;
-                }
+                mostly_closed(random, request);
             }
             call
         }
     }
+}
+
+/// The fields of a listing, of which any may be out of its range, with a window of any length. Every other one asks for the
+/// ends of a standing booking from the clock on, and for what a link of its path has left at some event, or one more.
+pub fn listed(random: &mut Random, style: Style, desk: &Desk) -> Request {
+    let mut request = request(random, style, desk, false);
+    mostly_closed(random, &mut request);
+    if !desk.bookings.is_empty() && random.once_in(2) {
+        let path = &pick(random, &desk.bookings).path;
+        let [first, last] = [path[0], path[path.len() - 1]].map(|link| desk.links[link as usize]);
+        let (link, event) = (*pick(random, path), *pick(random, &desk.events()));
+        (request.from, request.to) = (first.from, last.to);
+        (request.earliest, request.latest) = (0, request.latest.max(desk.clock + 300).min(MAX_MINUTE));
+        request.bandwidth = desk.residual(link, event) as u32 + random.once_in(2) as u32;
+    }
+    request
+}
+
+/// What some link has left at some event; 0 if that is none.
+pub fn just_free(random: &mut Random, desk: &Desk) -> u32 {
+    let event = *pick(random, &desk.events());
+    desk.residual(random.below(desk.links.len() as u64) as u32, event) as u32
+}
+
+/// Only a record leaves the latest start open.
+fn mostly_closed(random: &mut Random, request: &mut Request) {
+    if request.latest == OPEN && !random.once_in(30) {
+        request.latest = MAX_MINUTE;
+    }
+}
+
+/// A number of figures that a lent list may have, mostly not the right one.
+pub fn list_size(random: &mut Random) -> usize {
+    let any = random.below(2 * LIST_FIGURES as u64) as usize;
+    *pick(random, &[0, 1, 2, LIST_FIGURES / 2, LIST_FIGURES - 2, LIST_FIGURES - 1, LIST_FIGURES + 1, any])
 }
 
 /// A net for a set-up in mid-history, sometimes with a bad link or a bad number of links.
@@ -283,6 +321,10 @@ fn bandwidth(random: &mut Random, style: Style, desk: &Desk, low: u32) -> u32 {
 pub fn suits(style: Style, desk: &Desk, call: &Call) -> bool {
     match call {
         Call::Book(_, request) | Call::Offer(request) => desk.check(request).is_err() || walkable(desk, request),
+        Call::List(figures, request) => {
+            let walk = || desk.last_tried(request, Walk::ToLastEvent) - desk.low(request);
+            desk.check_listing(*figures, request).is_err() || walk() <= LONGEST_LISTING
+        }
         Call::MoveClock(minute) => {
             style == Style::Far || *minute > MAX_MINUTE || minute.saturating_sub(desk.clock) <= LONGEST_WALK
         }

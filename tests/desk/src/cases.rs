@@ -1,7 +1,8 @@
-//! Histories worked out by hand from document 01: its session, its examples and the faults that it names.
+//! Histories worked out by hand from document 01: its session, its examples and the faults that it names; and listings by
+//! document 02's Job 1.
 
-use crate::plain::{Answer, Call, Start};
-use crate::{Link, Request, MAX_BANDWIDTH, MAX_DURATION, MAX_MINUTE};
+use crate::plain::{Answer, Call, Range, Start};
+use crate::{Link, Request, BOOKINGS, LIST_FIGURES, MAX_BANDWIDTH, MAX_DURATION, MAX_MINUTE};
 
 pub struct Case {
     pub name: &'static str,
@@ -29,6 +30,12 @@ fn booked(number: u32, request: Request, minute: u32, path: &[u32]) -> (Call, An
 
 fn offered(request: Request, minute: u32, path: &[u32]) -> (Call, Answer) {
     (Call::Offer(request), Answer::Offered(Start { minute, path: path.to_vec() }))
+}
+
+/// A listing with its ranges, each as first and last.
+fn listed(request: Request, ranges: &[(u32, u32)]) -> (Call, Answer) {
+    let ranges = ranges.iter().map(|&(first, last)| Range { first, last }).collect();
+    (Call::List(LIST_FIGURES, request), Answer::Listed(ranges))
 }
 
 fn cancelled(number: u32) -> (Call, Answer) {
@@ -67,6 +74,12 @@ pub fn cases() -> Vec<Case> {
         case("the last minutes", links(&[(0, 1, 5)]), last_minutes()),
         case("what cancelling, clock and showing refuse", triangle(), small_refusals()),
         case("an ended booking's number and room are used again", links(&[(0, 1, 5)]), used_again()),
+        case("every start in document 01's session", triangle(), listed_session()),
+        case("what a listing refuses", triangle(), listing_refusals()),
+        case("one range over two paths in turn", links(&[(0, 1, 10), (0, 1, 10)]), paths_in_turn()),
+        case("a gap where no path lasts", links(&[(0, 1, 10), (0, 1, 10)]), paths_too_short()),
+        case("the most ranges there are", links(&[(0, 1, 10)]), most_ranges()),
+        case("listings to the last minute", links(&[(0, 1, 5)]), listed_last_minutes()),
     ]
 }
 
@@ -307,5 +320,133 @@ fn used_again() -> Vec<(Call, Answer)> {
         cancelled(1),
         shown(0, 7, 5),
         booked(1, whole, 7, &[0]),
+    ]
+}
+
+/// The session, with what can be started before and after each of its orders.
+fn listed_session() -> Vec<(Call, Answer)> {
+    let third = request(2, 5, 4, 2, 4);
+    let open = |bandwidth, duration| request(2, bandwidth, duration, 0, MAX_MINUTE);
+    vec![
+        // Nothing is booked: 10 Mb/s over links 0 and 1 at all times, 11 never.
+        listed(open(10, 10), &[(0, MAX_MINUTE)]),
+        listed(open(11, 10), &[]),
+        booked(7, request(2, 4, 10, 0, MAX_MINUTE), 0, &[2]),
+        booked(9, request(2, 6, 5, 0, MAX_MINUTE), 0, &[0, 1]),
+        // Links 0 and 1 have 4 Mb/s left in minutes 0 to 4 and 10 from 5 on, link 2 none in 0 to 9 and then 4.
+        listed(third, &[]),
+        listed(Request { latest: 5, ..third }, &[(5, 5)]),
+        listed(open(5, 4), &[(5, MAX_MINUTE)]),
+        listed(open(4, 10), &[(0, MAX_MINUTE)]),
+        refused(Call::Book(3, third), 8),
+        booked(3, Request { latest: 5, ..third }, 5, &[0, 1]),
+        // Links 0 and 1 have 5 left in 5 to 8.
+        listed(open(5, 4), &[(5, MAX_MINUTE)]),
+        listed(open(6, 4), &[(9, MAX_MINUTE)]),
+        cancelled(9),
+        // Links 0 and 1 have 10 in 0 to 4, 5 in 5 to 8, and 10 from 9 on. A span of 2 minutes that starts in 4 meets 5.
+        listed(open(6, 1), &[(0, 4), (9, MAX_MINUTE)]),
+        listed(open(6, 2), &[(0, 3), (9, MAX_MINUTE)]),
+        listed(open(6, 5), &[(0, 0), (9, MAX_MINUTE)]),
+        listed(open(6, 6), &[(9, MAX_MINUTE)]),
+        listed(request(2, 6, 2, 2, 9), &[(2, 3), (9, 9)]),
+        listed(request(2, 6, 2, 4, 8), &[]),
+        listed(request(2, 4, 3, 0, 0), &[(0, 0)]),
+        offered(request(2, 4, 3, 0, 0), 0, &[0, 1]),
+        clock(10),
+        // Nothing stands any more, and the window begins at the clock.
+        listed(request(2, 6, 2, 2, 10), &[(10, 10)]),
+        listed(open(10, 10), &[(10, MAX_MINUTE)]),
+        refused(Call::List(LIST_FIGURES, request(2, 6, 2, 2, 9)), 5),
+        refused(Call::Cancel(7), 9),
+    ]
+}
+
+/// The list's length comes first, then what an offer refuses through 5; 8 is never said.
+fn listing_refusals() -> Vec<(Call, Answer)> {
+    let good = request(2, 4, 10, 0, 20);
+    let of = |figures, request| Call::List(figures, request);
+    let bad_field = Request { bandwidth: 0, earliest: 9, latest: 8, ..good };
+    let empty = Request { earliest: 9, latest: 8, ..good };
+    let mut steps: Vec<_> = [0, 1, 129, 257, 259, 516].map(|figures| refused(of(figures, good), 13)).to_vec();
+    steps.extend([
+        refused(of(257, bad_field), 13),
+        refused(of(257, empty), 13),
+        refused(of(258, bad_field), 4),
+        refused(of(258, empty), 5),
+        refused(of(258, Request { to: 0, ..good }), 4),
+        refused(of(258, Request { duration: MAX_DURATION + 1, ..good }), 4),
+        refused(of(258, Request { latest: MAX_MINUTE + 1, ..good }), 4),
+        refused(Call::Offer(Request { bandwidth: 11, ..good }), 8),
+        listed(Request { bandwidth: 11, ..good }, &[]),
+        listed(good, &[(0, 20)]),
+    ]);
+    steps
+}
+
+/// Link 0 is free in minutes 0 to 4 and link 1 in 5 to 9: a span of one minute always has one of them, and the ranges 0 to 4
+/// and 5 to 9 touch. A span of two has none at 4. Then both are free from 10 on.
+fn paths_in_turn() -> Vec<(Call, Answer)> {
+    vec![
+        booked(1, request(1, 10, 5, 5, 5), 5, &[0]),
+        booked(2, request(1, 10, 5, 0, 0), 0, &[0]),
+        booked(3, request(1, 10, 5, 0, 0), 0, &[1]),
+        cancelled(2),
+        listed(request(1, 10, 1, 0, 30), &[(0, 30)]),
+        listed(request(1, 10, 2, 0, 30), &[(0, 3), (5, 30)]),
+        listed(request(1, 10, 5, 0, 30), &[(0, 0), (5, 30)]),
+        listed(request(1, 10, 6, 0, 30), &[(5, 30)]),
+    ]
+}
+
+/// Link 0 is free in minutes 0 to 4 and link 1 from 7 on: no link in 5 and 6. A span of 3 fits at 0 to 2 and from 7 on; at
+/// 3 it would have link 0 for two minutes only.
+fn paths_too_short() -> Vec<(Call, Answer)> {
+    vec![
+        booked(1, request(1, 10, 5, 5, 5), 5, &[0]),
+        booked(2, request(1, 10, 5, 0, 0), 0, &[0]),
+        booked(3, request(1, 10, 7, 0, 0), 0, &[1]),
+        cancelled(2),
+        listed(request(1, 10, 3, 0, MAX_MINUTE), &[(0, 2), (7, MAX_MINUTE)]),
+        listed(request(1, 10, 1, 3, 8), &[(3, 4), (7, 8)]),
+        listed(request(1, 10, 1, 5, 6), &[]),
+        listed(request(1, 10, 6, 0, MAX_MINUTE), &[(7, MAX_MINUTE)]),
+    ]
+}
+
+/// 64 bookings hold the only link in every odd minute of 1 to 127, so that 65 ranges are left: 64 even minutes, and 128 to
+/// the latest. There can't be more: a range that doesn't begin at low begins where a booking ends, since only then some link
+/// has more than the minute before, and 64 bookings have 64 ends.
+fn most_ranges() -> Vec<(Call, Answer)> {
+    let numbers = 1..=BOOKINGS as u32;
+    let minutes = 2 * BOOKINGS as u32;
+    let book = |number: u32| booked(number, request(1, 10, 1, 2 * number - 1, 2 * number - 1), 2 * number - 1, &[0]);
+    let mut steps: Vec<_> = numbers.clone().map(book).collect();
+    let mut even: Vec<(u32, u32)> = numbers.map(|number| (2 * number - 2, 2 * number - 2)).collect();
+    steps.push(listed(request(1, 1, 1, 0, minutes - 1), &even));
+    even.push((minutes, MAX_MINUTE));
+    steps.push(listed(request(1, 1, 1, 0, MAX_MINUTE), &even));
+    steps.push(listed(request(1, 1, 1, 1, MAX_MINUTE), &even[1..]));
+    steps.push(listed(request(1, 1, 2, 0, MAX_MINUTE), &[(minutes, MAX_MINUTE)]));
+    steps.push(listed(request(1, 1, 2, 0, minutes - 1), &[]));
+    steps.push(clock(7));
+    steps.push(listed(request(1, 10, 1, 0, MAX_MINUTE), &even[4..]));
+    steps
+}
+
+/// A booking of the last minute and a year: a start must end before it.
+fn listed_last_minutes() -> Vec<(Call, Answer)> {
+    let open = |duration| request(1, 1, duration, 999_400_000, MAX_MINUTE);
+    vec![
+        listed(open(MAX_DURATION), &[(999_400_000, MAX_MINUTE)]),
+        booked(1, request(1, 5, MAX_DURATION, MAX_MINUTE, MAX_MINUTE), MAX_MINUTE, &[0]),
+        listed(open(1), &[(999_400_000, 999_999_999)]),
+        listed(open(2), &[(999_400_000, 999_999_998)]),
+        listed(open(MAX_DURATION), &[(999_400_000, 999_474_400)]),
+        listed(request(1, 1, 1, MAX_MINUTE, MAX_MINUTE), &[]),
+        clock(MAX_MINUTE),
+        listed(open(1), &[]),
+        cancelled(1),
+        listed(open(MAX_DURATION), &[(MAX_MINUTE, MAX_MINUTE)]),
     ]
 }

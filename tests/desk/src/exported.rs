@@ -1,6 +1,6 @@
 //! The exported calls of the proved desk, on tables that are lent to them.
 
-use crate::plain::{Answer, Call, Start};
+use crate::plain::{Answer, Call, Range, Start};
 use crate::tables::Tables;
 use crate::{Head, Link, Request, PATH_LINKS};
 
@@ -14,6 +14,14 @@ struct Granted {
     links: [u32; PATH_LINKS],
 }
 
+/// What a listing hands back.
+#[repr(C)]
+#[derive(Clone, Copy)]
+struct Listed {
+    refusal: u32,
+    count: u32,
+}
+
 /// What a showing hands back.
 #[repr(C)]
 #[derive(Clone, Copy)]
@@ -22,187 +30,88 @@ struct Shown {
     free: u32,
 }
 
-extern "C" {
-    fn gcr_set_up(
-        head: *mut Head,
-        links: *const Link,
-        link_count: usize,
-        events: *mut u32,
-        event_count: usize,
-        free: *mut u32,
-        free_count: usize,
-        book: *mut u32,
-        book_count: usize,
-    ) -> u32;
-    fn gcr_book(
-        head: *mut Head,
-        links: *const Link,
-        link_count: usize,
-        events: *mut u32,
-        event_count: usize,
-        free: *mut u32,
-        free_count: usize,
-        book: *mut u32,
-        book_count: usize,
-        number: u32,
-        request: Request,
-    ) -> Granted;
-    fn gcr_offer(
-        head: *const Head,
-        links: *const Link,
-        link_count: usize,
-        events: *const u32,
-        event_count: usize,
-        free: *const u32,
-        free_count: usize,
-        book: *const u32,
-        book_count: usize,
-        request: Request,
-    ) -> Granted;
-    fn gcr_cancel(
-        head: *mut Head,
-        links: *const Link,
-        link_count: usize,
-        events: *mut u32,
-        event_count: usize,
-        free: *mut u32,
-        free_count: usize,
-        book: *mut u32,
-        book_count: usize,
-        number: u32,
-    ) -> u32;
-    fn gcr_move_clock(
-        head: *mut Head,
-        links: *const Link,
-        link_count: usize,
-        events: *mut u32,
-        event_count: usize,
-        free: *mut u32,
-        free_count: usize,
-        book: *mut u32,
-        book_count: usize,
-        minute: u32,
-    ) -> u32;
-    fn gcr_show(
-        head: *const Head,
-        links: *const Link,
-        link_count: usize,
-        events: *const u32,
-        event_count: usize,
-        free: *const u32,
-        free_count: usize,
-        book: *const u32,
-        book_count: usize,
-        link: u32,
-        minute: u32,
-    ) -> Shown;
+/// Declares calls over a desk that is lent for writing (`mut`) or for reading (`const`), with what they are asked behind it.
+macro_rules! calls {
+    ($(fn $name:ident($lent:tt $(, $asked:ident: $type:ty)*) -> $answer:ty;)*) => {
+        extern "C" {
+            $(fn $name(
+                head: *$lent Head,
+                links: *const Link,
+                link_count: usize,
+                events: *$lent u32,
+                event_count: usize,
+                free: *$lent u32,
+                free_count: usize,
+                book: *$lent u32,
+                book_count: usize
+                $(, $asked: $type)*
+            ) -> $answer;)*
+        }
+    };
+}
+
+calls! {
+    fn gcr_set_up(mut) -> u32;
+    fn gcr_book(mut, number: u32, request: Request) -> Granted;
+    fn gcr_offer(const, request: Request) -> Granted;
+    fn gcr_list_starts(const, request: Request, list: *mut u32, list_count: usize) -> Listed;
+    fn gcr_cancel(mut, number: u32) -> u32;
+    fn gcr_move_clock(mut, minute: u32) -> u32;
+    fn gcr_show(const, link: u32, minute: u32) -> Shown;
+}
+
+/// Lends a desk to a call that writes it.
+macro_rules! writing {
+    ($name:ident, $links:expr, $t:expr $(, $asked:expr)*) => {{
+        let (l, t): (&[Link], &mut Tables) = ($links, $t);
+        let (e, f, b) = (&mut t.events, &mut t.free, &mut t.book);
+        let (ep, fp, bp) = (e.as_mut_ptr(), f.as_mut_ptr(), b.as_mut_ptr());
+        unsafe { $name(&mut t.head, l.as_ptr(), l.len(), ep, e.len(), fp, f.len(), bp, b.len() $(, $asked)*) }
+    }};
+}
+
+/// Lends a desk to a call that only reads it.
+macro_rules! reading {
+    ($name:ident, $links:expr, $t:expr $(, $asked:expr)*) => {{
+        let (l, t): (&[Link], &Tables) = ($links, $t);
+        let (e, f, b) = (&t.events, &t.free, &t.book);
+        let (ep, fp, bp) = (e.as_ptr(), f.as_ptr(), b.as_ptr());
+        unsafe { $name(&t.head, l.as_ptr(), l.len(), ep, e.len(), fp, f.len(), bp, b.len() $(, $asked)*) }
+    }};
 }
 
 pub fn set_up(links: &[Link], t: &mut Tables) -> Result<(), u32> {
-    let (e, f, b) = (&mut t.events, &mut t.free, &mut t.book);
-    done(unsafe {
-        gcr_set_up(
-            &mut t.head,
-            links.as_ptr(),
-            links.len(),
-            e.as_mut_ptr(),
-            e.len(),
-            f.as_mut_ptr(),
-            f.len(),
-            b.as_mut_ptr(),
-            b.len(),
-        )
-    })
+    done(writing!(gcr_set_up, links, t))
 }
 
 pub fn book(links: &[Link], t: &mut Tables, number: u32, request: &Request) -> Result<Start, u32> {
-    let (e, f, b) = (&mut t.events, &mut t.free, &mut t.book);
-    granted(unsafe {
-        gcr_book(
-            &mut t.head,
-            links.as_ptr(),
-            links.len(),
-            e.as_mut_ptr(),
-            e.len(),
-            f.as_mut_ptr(),
-            f.len(),
-            b.as_mut_ptr(),
-            b.len(),
-            number,
-            *request,
-        )
-    })
+    granted(writing!(gcr_book, links, t, number, *request))
 }
 
 pub fn offer(links: &[Link], t: &Tables, request: &Request) -> Result<Start, u32> {
-    granted(unsafe {
-        gcr_offer(
-            &t.head,
-            links.as_ptr(),
-            links.len(),
-            t.events.as_ptr(),
-            t.events.len(),
-            t.free.as_ptr(),
-            t.free.len(),
-            t.book.as_ptr(),
-            t.book.len(),
-            *request,
-        )
-    })
+    granted(reading!(gcr_offer, links, t, *request))
+}
+
+/// Writes the ranges into the list, and answers their number.
+pub fn list(links: &[Link], t: &Tables, request: &Request, list: &mut [u32]) -> Result<u32, u32> {
+    let listed = reading!(gcr_list_starts, links, t, *request, list.as_mut_ptr(), list.len());
+    if listed.refusal == 0 {
+        return Ok(listed.count);
+    }
+    assert_eq!(listed.count, 0, "a refused listing has a range");
+    Err(listed.refusal)
 }
 
 pub fn cancel(links: &[Link], t: &mut Tables, number: u32) -> Result<(), u32> {
-    let (e, f, b) = (&mut t.events, &mut t.free, &mut t.book);
-    done(unsafe {
-        gcr_cancel(
-            &mut t.head,
-            links.as_ptr(),
-            links.len(),
-            e.as_mut_ptr(),
-            e.len(),
-            f.as_mut_ptr(),
-            f.len(),
-            b.as_mut_ptr(),
-            b.len(),
-            number,
-        )
-    })
+    done(writing!(gcr_cancel, links, t, number))
 }
 
 pub fn move_clock(links: &[Link], t: &mut Tables, minute: u32) -> Result<(), u32> {
-    let (e, f, b) = (&mut t.events, &mut t.free, &mut t.book);
-    done(unsafe {
-        gcr_move_clock(
-            &mut t.head,
-            links.as_ptr(),
-            links.len(),
-            e.as_mut_ptr(),
-            e.len(),
-            f.as_mut_ptr(),
-            f.len(),
-            b.as_mut_ptr(),
-            b.len(),
-            minute,
-        )
-    })
+    done(writing!(gcr_move_clock, links, t, minute))
 }
 
 pub fn show(links: &[Link], t: &Tables, link: u32, minute: u32) -> Result<u32, u32> {
-    let shown = unsafe {
-        gcr_show(
-            &t.head,
-            links.as_ptr(),
-            links.len(),
-            t.events.as_ptr(),
-            t.events.len(),
-            t.free.as_ptr(),
-            t.free.len(),
-            t.book.as_ptr(),
-            t.book.len(),
-            link,
-            minute,
-        )
-    };
+    let shown = reading!(gcr_show, links, t, link, minute);
     if shown.refusal == 0 {
         return Ok(shown.free);
     }
@@ -216,11 +125,33 @@ pub fn answer(links: &[Link], tables: &mut Tables, call: &Call) -> Answer {
         Call::SetUp(links) => set_up(links, tables).map(|()| Answer::SetUp),
         Call::Book(number, request) => book(links, tables, *number, request).map(Answer::Booked),
         Call::Offer(request) => offer(links, tables, request).map(Answer::Offered),
+        Call::List(figures, request) => {
+            listing(*figures, |lent| list(links, tables, request, lent)).map(Answer::Listed)
+        }
         Call::Cancel(number) => cancel(links, tables, *number).map(|()| Answer::Cancelled),
         Call::MoveClock(minute) => move_clock(links, tables, *minute).map(|()| Answer::Moved),
         Call::Show { link, minute } => show(links, tables, *link, *minute).map(Answer::Shown),
     };
     answered.unwrap_or_else(Answer::Refused)
+}
+
+/// The ranges that a listing writes into a lent list of so many figures. The list stands between figures that nobody may
+/// write; past its ranges it is zero, and after a refusal it is as it was.
+pub fn listing(figures: usize, list: impl FnOnce(&mut [u32]) -> Result<u32, u32>) -> Result<Vec<Range>, u32> {
+    const MARGIN: usize = 4;
+    // No figure is a minute, and no two are the same.
+    let before: Vec<u32> = (0..(figures + 2 * MARGIN) as u32).map(|place| u32::MAX - place).collect();
+    let mut after = before.clone();
+    let answer = list(&mut after[MARGIN..][..figures]);
+    if answer.is_err() {
+        assert!(after == before, "a refused listing writes the list");
+    }
+    let (lent, end) = after[MARGIN..].split_at(figures);
+    let margins_stand = after[..MARGIN] == before[..MARGIN] && *end == before[MARGIN + figures..];
+    assert!(margins_stand, "a listing writes beside the list");
+    let (used, unused) = lent.split_at(2 * answer? as usize);
+    assert!(unused.iter().all(|&figure| figure == 0), "a list is not zero past its last range");
+    Ok(used.chunks(2).map(|pair| Range { first: pair[0], last: pair[1] }).collect())
 }
 
 fn done(refusal: u32) -> Result<(), u32> {

@@ -1,11 +1,12 @@
-//! An independent desk, written from document 01 alone and not from the library, which tries every minute; the tables and
-//! the program's lines that document 01 prescribes for it; and generators of sessions, histories and damages.
+//! An independent desk, written from documents 01 and 02 alone and not from the library, which tries every minute; the
+//! tables and the program's lines that document 01 prescribes for it; and generators of sessions, histories and damages.
 
 pub mod calls;
 pub mod cases;
 pub mod damages;
 pub mod exported;
 pub mod lines;
+pub mod listings;
 pub mod plain;
 pub mod sessions;
 pub mod tables;
@@ -16,6 +17,8 @@ pub const BOOKINGS: usize = 64;
 pub const PATH_LINKS: usize = 31;
 /// Places for events: the clock, and a start and an end of each booking.
 pub const EVENTS: usize = 129;
+/// Figures of a listing's list: a first and a last minute in each of 129 places.
+pub const LIST_FIGURES: usize = 2 * EVENTS;
 /// Figures of a row of the free table.
 pub const ROW: usize = 64;
 /// Figures of a place of the book: number, start, duration, bandwidth, count of links, and the path.

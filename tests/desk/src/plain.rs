@@ -1,9 +1,9 @@
-//! The independent desk: a link list, a clock and a list of bookings, and the six calls with their checks in document 01's
-//! order. It keeps no table: a residual bandwidth is the capacity less what the bookings hold.
+//! The independent desk: a link list, a clock and a list of bookings, and the seven calls with their checks in the order of
+//! documents 01 and 02. It keeps no table: a residual bandwidth is the capacity less what the bookings hold.
 
 use crate::{Link, Request};
-use crate::{BOOKINGS, LINKS, MAX_BANDWIDTH, MAX_CAPACITY, MAX_DURATION, MAX_END, MAX_MINUTE, MAX_NUMBER};
-use crate::{NODES, PATH_LINKS};
+use crate::{BOOKINGS, LINKS, LIST_FIGURES, NODES, PATH_LINKS};
+use crate::{MAX_BANDWIDTH, MAX_CAPACITY, MAX_DURATION, MAX_END, MAX_MINUTE, MAX_NUMBER};
 
 #[derive(Clone, Debug, PartialEq, Eq)]
 pub struct Booking {
@@ -33,11 +33,13 @@ pub struct Desk {
     pub bookings: Vec<Booking>,
 }
 
+/// A listing has the number of figures of its lent list.
 #[derive(Clone, Debug, PartialEq, Eq)]
 pub enum Call {
     SetUp(Vec<Link>),
     Book(u32, Request),
     Offer(Request),
+    List(usize, Request),
     Cancel(u32),
     MoveClock(u32),
     Show { link: u32, minute: u32 },
@@ -48,6 +50,7 @@ pub enum Answer {
     SetUp,
     Booked(Start),
     Offered(Start),
+    Listed(Vec<Range>),
     Cancelled,
     Moved,
     Shown(u32),
@@ -61,7 +64,14 @@ pub struct Start {
     pub path: Vec<u32>,
 }
 
-/// How far a choice walks through a window. Past the last event nothing changes any more, so the two always agree.
+/// Start minutes that are all possible, from the first to the last.
+#[derive(Clone, Copy, Debug, PartialEq, Eq)]
+pub struct Range {
+    pub first: u32,
+    pub last: u32,
+}
+
+/// How far a choice or listing walks through a window. Past the last event nothing changes any more, so the two always agree.
 #[derive(Clone, Copy, Debug, PartialEq, Eq)]
 pub enum Walk {
     ToLastEvent,
@@ -80,7 +90,7 @@ impl Desk {
         Ok(Desk { links: links.to_vec(), clock: 0, bookings: Vec::new() })
     }
 
-    /// Runs any of the six calls on sound tables of the right sizes: refusals 1 (but for the link list) and 3 don't occur.
+    /// Runs any of the seven calls on sound tables of the right sizes: refusals 1 (but for the link list) and 3 don't occur.
     pub fn answer(&mut self, call: &Call) -> Answer {
         let answer = match call {
             Call::SetUp(links) => Desk::set_up(links).map(|desk| {
@@ -89,6 +99,7 @@ impl Desk {
             }),
             Call::Book(number, request) => self.book(*number, request).map(Answer::Booked),
             Call::Offer(request) => self.offer(request).map(Answer::Offered),
+            Call::List(figures, request) => self.list(*figures, request).map(Answer::Listed),
             Call::Cancel(number) => self.cancel(*number).map(|()| Answer::Cancelled),
             Call::MoveClock(minute) => self.move_clock(*minute).map(|()| Answer::Moved),
             Call::Show { link, minute } => self.show(*link, *minute).map(Answer::Shown),
@@ -123,6 +134,12 @@ impl Desk {
     pub fn offer(&self, request: &Request) -> Result<Start, u32> {
         self.check(request)?;
         self.choose(request, Walk::ToLastEvent).ok_or(8)
+    }
+
+    /// Refuses 13, 4, 5, in this order.
+    pub fn list(&self, figures: usize, request: &Request) -> Result<Vec<Range>, u32> {
+        self.check_listing(figures, request)?;
+        Ok(self.ranges(request, Walk::ToLastEvent))
     }
 
     /// Refuses 4, then 9.
@@ -193,30 +210,37 @@ impl Desk {
     }
 
     /// The earliest minute of the window at which a path is free throughout, with the best path there: every minute of the
-    /// window is tried in turn. A set of links that was just found without a path isn't searched again.
+    /// window is tried in turn.
     pub fn choose(&self, request: &Request, walk: Walk) -> Option<Start> {
-        let low = self.low(request);
-        let last_event = self.bookings.iter().map(Booking::end).max().unwrap_or(self.clock);
-        let last = match walk {
-            Walk::ToLastEvent => request.latest.min(low.max(last_event)),
-            Walk::ToLatest => request.latest,
-        };
-        let short: Vec<Vec<(u32, u32)>> =
-            (0..self.links.len() as u32).map(|link| self.short_spans(link, request.bandwidth)).collect();
-        let mut without_path = None;
-        for minute in low..=last {
-            let end = minute + request.duration;
-            let usable = short.iter().map(|spans| !spans.iter().any(|&(from, to)| from < end && minute < to));
-            let usable = usable.enumerate().fold(0u64, |set, (link, free)| set | (free as u64) << link);
-            if without_path == Some(usable) {
-                continue;
+        let mut trial = Trial::new(self, request);
+        (self.low(request)..=self.last_tried(request, walk))
+            .find_map(|minute| trial.path_at(minute).cloned().map(|path| Start { minute, path }))
+    }
+
+    /// The ranges of possible start minutes of the window: every minute of it is tried in turn, and minutes that touch are
+    /// in one range.
+    pub fn ranges(&self, request: &Request, walk: Walk) -> Vec<Range> {
+        let mut trial = Trial::new(self, request);
+        let mut ranges: Vec<Range> = Vec::new();
+        let last_tried = self.last_tried(request, walk);
+        for minute in (self.low(request)..=last_tried).filter(|&minute| trial.path_at(minute).is_some()) {
+            // The last one tried stands for those behind it.
+            let last = if minute == last_tried { request.latest } else { minute };
+            match ranges.last_mut() {
+                Some(range) if range.last + 1 == minute => range.last = last,
+                _ => ranges.push(Range { first: minute, last }),
             }
-            if let Some(path) = best_path(&self.links, usable, request.from, request.to) {
-                return Some(Start { minute, path });
-            }
-            without_path = Some(usable);
         }
-        None
+        ranges
+    }
+
+    /// The last minute of a window that is tried.
+    pub fn last_tried(&self, request: &Request, walk: Walk) -> u32 {
+        let last_event = self.bookings.iter().map(Booking::end).max().unwrap_or(self.clock);
+        match walk {
+            Walk::ToLastEvent => request.latest.min(self.low(request).max(last_event)),
+            Walk::ToLatest => request.latest,
+        }
     }
 
     /// The spans of minutes, from one to before another, in which the link has less than the bandwidth left. What is left
@@ -238,6 +262,14 @@ impl Desk {
         short
     }
 
+    /// What stops a listing into a list of so many figures: 13, 4, then 5.
+    pub fn check_listing(&self, figures: usize, request: &Request) -> Result<(), u32> {
+        if figures != LIST_FIGURES {
+            return Err(13);
+        }
+        self.check(request)
+    }
+
     /// What stops a request before a start is chosen: 4, then 5.
     pub fn check(&self, request: &Request) -> Result<(), u32> {
         let in_range = (request.from as usize) < NODES
@@ -253,6 +285,36 @@ impl Desk {
             return Err(5);
         }
         Ok(())
+    }
+}
+
+/// Tries minutes as the start of a request, its window left aside.
+pub struct Trial<'a> {
+    desk: &'a Desk,
+    request: Request,
+    /// For each link the spans in which it has less than the bandwidth left.
+    short: Vec<Vec<(u32, u32)>>,
+    /// A set of links with its best path: the last one that was searched isn't searched again.
+    searched: Option<(u64, Option<Vec<u32>>)>,
+}
+
+impl Trial<'_> {
+    pub fn new<'a>(desk: &'a Desk, request: &Request) -> Trial<'a> {
+        let links = 0..desk.links.len() as u32;
+        let short = links.map(|link| desk.short_spans(link, request.bandwidth)).collect();
+        Trial { desk, request: *request, short, searched: None }
+    }
+
+    /// The best path over the links that have the bandwidth in every minute of the span that starts here.
+    pub fn path_at(&mut self, minute: u32) -> Option<&Vec<u32>> {
+        let end = minute + self.request.duration;
+        let usable = self.short.iter().map(|spans| !spans.iter().any(|&(from, to)| from < end && minute < to));
+        let usable = usable.enumerate().fold(0u64, |set, (link, free)| set | (free as u64) << link);
+        if self.searched.as_ref().map(|&(set, _)| set) != Some(usable) {
+            let path = best_path(&self.desk.links, usable, self.request.from, self.request.to);
+            self.searched = Some((usable, path));
+        }
+        self.searched.as_ref().and_then(|(_, path)| path.as_ref())
     }
 }
 

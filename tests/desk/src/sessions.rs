@@ -1,8 +1,8 @@
-//! Random sessions as the bytes of the program's input, and random histories of the six calls as values.
+//! Random sessions as the bytes of the program's input, and random histories of the seven calls as values.
 
 use support::Random;
 
-use crate::calls::{bad_link, call, fills, first_minute, net, order, pick, style, suits, Style};
+use crate::calls::{bad_link, call, fills, first_minute, listed, net, order, pick, style, suits, Style};
 use crate::lines::{answer, link_bytes, opening, order_bytes, read_order};
 use crate::plain::{Answer, Call, Desk};
 use crate::{Link, Request, BOOKINGS, LINKS, MAX_CAPACITY, PATH_LINKS};
@@ -150,6 +150,11 @@ impl History {
                 return call;
             }
         }
+    }
+
+    /// The fields of a listing on the desk, with a window of any length.
+    pub fn listed(&mut self) -> Request {
+        listed(&mut self.random, self.style, &self.desk)
     }
 
     /// A booking of another number and its cancellation, which leave the desk as it is; none if the booking is refused.

@@ -1,7 +1,8 @@
-//! The choice of the independent desk against others: the same by its words, minute by minute and span by span; with
-//! candidate minutes only; and paths found by listing all of them.
+//! The choice and the listing of the independent desk against others: the same by their words, minute by minute and span by
+//! span; with candidate minutes only; and paths found by listing all of them.
 
-use desk_tests::plain::{best_path, Booking, Desk, Start, Walk};
+use desk_tests::listings;
+use desk_tests::plain::{best_path, Booking, Desk, Range, Start, Walk};
 use desk_tests::{Link, Request};
 use support::Random;
 
@@ -38,6 +39,26 @@ fn literal(desk: &Desk, request: &Request) -> Option<Start> {
             |link: u32| (minute..minute + request.duration).all(|m| desk.residual(link, m) >= request.bandwidth as i64);
         best(&desk.links, &enough, request.from, request.to).map(|path| Start { minute, path })
     })
+}
+
+/// Whether a listing is right in document 02's words: each possible minute of the window is in exactly one range and no
+/// other minute is in any, the ranges rise, and each is as long as it can be.
+fn right_listing(desk: &Desk, request: &Request, ranges: &[Range]) -> bool {
+    let possible = |minute: u32| {
+        let enough =
+            |link: u32| (minute..minute + request.duration).all(|m| desk.residual(link, m) >= request.bandwidth as i64);
+        !paths(&desk.links, &enough, request.from, request.to, &mut Vec::new()).is_empty()
+    };
+    let (low, latest) = (desk.low(request), request.latest);
+    let listed = |minute: u32| ranges.iter().filter(|range| (range.first..=range.last).contains(&minute)).count();
+    let longest = |range: &Range| {
+        let before = range.first == low || !possible(range.first - 1);
+        let behind = range.last == latest || !possible(range.last + 1);
+        low <= range.first && range.first <= range.last && range.last <= latest && before && behind
+    };
+    (low..=latest).all(|minute| listed(minute) == possible(minute) as usize)
+        && ranges.iter().all(longest)
+        && ranges.windows(2).all(|pair| pair[0].first < pair[1].first)
 }
 
 /// The choice among low and the events in the window, over the events of the span.
@@ -122,6 +143,92 @@ fn every_minute_agrees_with_the_words_and_with_candidates() {
     }
     println!("{at_low} starts at low, {possible} later, {impossible} impossible");
     assert!(at_low > 2_000 && possible > 2_000 && impossible > 2_000, "{at_low}, {possible}, {impossible}");
+}
+
+fn small(random: &mut Random) -> (Desk, Request) {
+    let breadth = random.within(2, 24);
+    let desk = busy(random, breadth);
+    let request = request(random, &desk, breadth);
+    (desk, request)
+}
+
+/// A desk whose bookings leave gaps, and a window short enough to be tried by the words.
+fn gapped(random: &mut Random) -> (Desk, Request) {
+    let kind = if random.once_in(40) { listings::Kind::Full } else { listings::Kind::Few };
+    let desk = listings::desk(random, kind);
+    let request = listings::request(random, kind, &desk);
+    let duration = request.duration.min(9);
+    let earliest = request.earliest.min(desk.clock + 30);
+    let latest = request.latest.min(earliest.max(desk.clock) + random.within(10, 60) as u32);
+    (desk, Request { duration, earliest, latest, ..request })
+}
+
+#[test]
+fn ranges_agree_with_the_words() {
+    let mut by_count = [0; 5];
+    for turn in 0..20_000 {
+        let seed = SEED + 0x20_0000 + turn;
+        let mut random = Random::new(seed);
+        let (desk, request) = if turn % 2 == 0 { small(&mut random) } else { gapped(&mut random) };
+        if request.latest < desk.low(&request) {
+            continue;
+        }
+        let what = format!("seed {seed:#x}, {request:?}, {desk:?}");
+        let ranges = desk.ranges(&request, Walk::ToLastEvent);
+        assert_eq!(ranges, desk.ranges(&request, Walk::ToLatest), "both walks, {what}");
+        assert!(right_listing(&desk, &request, &ranges), "by the words, {ranges:?}, {what}");
+        assert_eq!(listings::fault(&mut random, &desk, &request, &ranges), None, "{what}");
+        assert_eq!(ranges.first().map(|range| range.first), desk.choose(&request, Walk::ToLatest).map(|s| s.minute));
+        by_count[ranges.len().min(4)] += 1;
+    }
+    println!("listings by number of ranges, the last four or more: {by_count:?}");
+    assert!(by_count.iter().all(|&count| count >= 100), "{by_count:?}");
+}
+
+/// Each range and each gap made longer or shorter by a minute at either end is found out, and so are two ranges for one, in
+/// windows that are sampled.
+#[test]
+fn a_wrong_listing_is_found_out() {
+    let mut found = 0;
+    for turn in 0..2_000 {
+        let seed = SEED + 0x30_0000 + turn;
+        let mut random = Random::new(seed);
+        let kind = listings::KINDS[turn as usize % listings::KINDS.len()];
+        let desk = listings::desk(&mut random, kind);
+        let request = listings::request(&mut random, kind, &desk);
+        let last_tried = desk.last_tried(&request, Walk::ToLastEvent);
+        if last_tried - desk.low(&request) > 50_000 {
+            continue;
+        }
+        let right = desk.ranges(&request, Walk::ToLastEvent);
+        assert_eq!(listings::fault(&mut random, &desk, &request, &right), None, "seed {seed:#x}");
+        for wrong in wrong_listings(&right) {
+            let fault = listings::fault(&mut random, &desk, &request, &wrong);
+            assert!(fault.is_some(), "seed {seed:#x}: {wrong:?} for {right:?}");
+            found += 1;
+        }
+    }
+    println!("{found} wrong listings found out");
+    assert!(found > 5_000, "{found}");
+}
+
+/// Listings with one mistake: a range left out, its end a minute off, or cut in two.
+fn wrong_listings(right: &[Range]) -> Vec<Vec<Range>> {
+    let mut wrong = Vec::new();
+    for (place, &Range { first, last }) in right.iter().enumerate() {
+        let mut with = |ranges: &[Range]| wrong.push([&right[..place], ranges, &right[place + 1..]].concat());
+        with(&[]);
+        with(&[Range { first: first + 1, last }]);
+        with(&[Range { first, last: last + 1 }]);
+        if first > 0 {
+            with(&[Range { first: first - 1, last }]);
+        }
+        if last > 0 {
+            with(&[Range { first, last: last - 1 }]);
+        }
+        with(&[Range { first, last: first }, Range { first: first + 1, last }]);
+    }
+    wrong
 }
 
 #[test]

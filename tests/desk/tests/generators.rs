@@ -2,6 +2,7 @@
 
 use desk_tests::damages::{damage, forged};
 use desk_tests::lines::{answer, line, opening, output, read_order};
+use desk_tests::listings::{self, KINDS};
 use desk_tests::plain::{Answer, Booking, Call, Desk};
 use desk_tests::sessions::{fullest, session, History};
 use desk_tests::tables::{self, Tables};
@@ -164,8 +165,8 @@ fn the_same_seed_gives_the_same_session() {
 
 #[test]
 fn tables_of_histories_are_sound_and_read_back() {
-    let mut calls = [0; 6];
-    let mut refused = [0; 13];
+    let mut calls = [0; 7];
+    let mut refused = [0; 14];
     for seed in SEED..SEED + 100 {
         let mut history = History::new(seed);
         for step in 0..400 {
@@ -180,6 +181,7 @@ fn tables_of_histories_are_sound_and_read_back() {
                 Call::Cancel(_) => 3,
                 Call::MoveClock(_) => 4,
                 Call::Show { .. } => 5,
+                Call::List(..) => 6,
             };
             calls[kind] += 1;
             if let Answer::Refused(refusal) = answer {
@@ -194,7 +196,7 @@ fn tables_of_histories_are_sound_and_read_back() {
     }
     println!("calls by kind: {calls:?}, refusals: {refused:?}");
     assert!(calls.iter().all(|&count| count >= 50), "{calls:?}");
-    assert!([1, 2, 4, 5, 6, 7, 8, 9, 10].iter().all(|&refusal: &usize| refused[refusal] >= 10), "{refused:?}");
+    assert!([1, 2, 4, 5, 6, 7, 8, 9, 10, 13].iter().all(|&refusal: &usize| refused[refusal] >= 10), "{refused:?}");
 }
 
 #[test]
@@ -222,6 +224,15 @@ fn the_fullest_desk() {
     assert_eq!((desk.links.len(), desk.bookings.len(), desk.events().len()), (64, 64, 129));
     assert!(desk.bookings.iter().all(|booking| booking.path.len() == 31));
     assert!(tables::sound(&desk.links, &tables::of(&desk)));
+}
+
+#[test]
+fn desks_to_list_on_are_sound() {
+    for seed in SEED..SEED + 400 {
+        let kind = KINDS[seed as usize % KINDS.len()];
+        let desk = listings::desk(&mut Random::new(seed), kind);
+        assert!(tables::sound(&desk.links, &tables::of(&desk)), "seed {seed:#x}, {kind:?}");
+    }
 }
 
 /// A damage is refused 1 or 3 but for the few that leave sound tables, as another rising number in the book.

@@ -30,7 +30,8 @@ fn cases_by_hand() {
         for (place, (call, answer)) in case.steps.iter().enumerate() {
             let before = desk.clone();
             assert_eq!(desk.answer(call), *answer, "{}, step {place}: {call:?}", case.name);
-            let unchanged = matches!(answer, Answer::Refused(_) | Answer::Offered(_) | Answer::Shown(_));
+            let unchanged =
+                matches!(answer, Answer::Refused(_) | Answer::Offered(_) | Answer::Listed(_) | Answer::Shown(_));
             assert!(!unchanged || desk == before, "{}, step {place}: {call:?} changes the desk", case.name);
         }
     }

@@ -1,4 +1,4 @@
-//! What the tests share: random numbers from a fixed seed.
+//! What the tests share: random numbers from a fixed seed, and a seed that is printed when a test fails.
 
 /// A small generator (SplitMix64). The same seed gives the same numbers everywhere.
 pub struct Random(u64);
@@ -29,5 +29,16 @@ impl Random {
     /// True once in `n` times.
     pub fn once_in(&mut self, n: u64) -> bool {
         self.below(n) == 0
+    }
+}
+
+/// Prints its seed if the test panics while it stands.
+pub struct Seed(pub u64);
+
+impl Drop for Seed {
+    fn drop(&mut self) {
+        if std::thread::panicking() {
+            println!("failed with seed {:#x}", self.0);
+        }
     }
 }

@@ -67,7 +67,7 @@ fn order(links: &[Link], tables: &mut Tables, piece: &[u8], out: &mut Vec<u8>) -
             fast::move_clock(links, tables, minute)?;
             put(out, format_args!("clock {minute}\n"));
         }
-        Call::SetUp(_) | Call::Show { .. } => unreachable!("no order asks for this"),
+        Call::SetUp(_) | Call::List(..) | Call::Show { .. } => unreachable!("no order asks for this"),
     }
     Ok(())
 }
