@@ -1,5 +1,5 @@
-/* Runs document 01's session on a desk, as the station's daemon does, with some figures shown on the way, and prints what
- * each call answered. */
+/* Runs document 01's session on a desk, as the station's daemon does, with some figures shown and starts listed on the way,
+ * and prints what each call answered. */
 #include <stdio.h>
 
 #include "gcr_desk.h"
@@ -76,6 +76,28 @@ static void show(uint32_t link, uint32_t minute)
         printf("  link %u minute %u free %u\n", link, minute, shown.free);
 }
 
+/* Lists the starts of a request's window into the first so many figures of a list that held ones. */
+static void list_starts(struct gcr_request asked, size_t figures)
+{
+    static uint32_t list[GCR_LIST_FIGURES + 1];
+    size_t ones = 0, zeros = 0;
+    for (size_t i = 0; i <= GCR_LIST_FIGURES; i++)
+        list[i] = 1;
+    struct gcr_listed listed = gcr_list_starts(&head, LINKS, TABLES, asked, list, figures);
+    if (listed.refusal != 0) {
+        for (size_t i = 0; i <= GCR_LIST_FIGURES; i++)
+            ones += list[i] == 1;
+        printf("  starts refused %u ranges %u ones %zu\n", listed.refusal, listed.count, ones);
+        return;
+    }
+    for (size_t i = 2 * listed.count; i < figures; i++)
+        zeros += list[i] == 0;
+    printf("  starts");
+    for (uint32_t i = 0; i < listed.count; i++)
+        printf(" %u to %u", list[2 * i], list[2 * i + 1]);
+    printf(" zeros %zu\n", zeros);
+}
+
 static void print_head(void)
 {
     printf("  head clock %u links %u bookings %u\n", head.clock, head.links, head.bookings);
@@ -104,6 +126,12 @@ int main(void)
     show(1, 5);
     cancel_one(5, 9);
     show(0, 4);
+    list_starts(request(6, 2, 0, OPEN), GCR_LIST_FIGURES);
+    list_starts(request(6, 2, 4, 8), GCR_LIST_FIGURES);
+    list_starts(request(6, 2, 0, OPEN), GCR_LIST_FIGURES - 1);
+    list_starts(request(0, 2, 0, OPEN), GCR_LIST_FIGURES + 1);
+    list_starts(request(0, 2, 0, OPEN), GCR_LIST_FIGURES);
+    list_starts(request(6, 2, 9, 8), GCR_LIST_FIGURES);
     offer_one(6, request(4, 3, 0, 0));
     show(0, 0);
     move_clock(7, 10);
@@ -113,7 +141,10 @@ int main(void)
     show(3, 10);
     cancel_one(8, 7);
     move_clock(9, 9);
+    list_starts(request(10, 2, 0, 12), GCR_LIST_FIGURES);
     events[0]++;
     offer_one(10, request(4, 3, 0, OPEN));
+    list_starts(request(4, 3, 0, OPEN), GCR_LIST_FIGURES - 1);
+    list_starts(request(4, 3, 0, OPEN), GCR_LIST_FIGURES);
     return 0;
 }
