@@ -1,14 +1,16 @@
-//! Nanoseconds for each of the six calls on the fullest desk (64 links, 64 bookings of 31 links, 129 events), by the
+//! Nanoseconds for each of the seven calls on the fullest desk (64 links, 64 bookings of 31 links, 129 events), by the
 //! proved desk through its exported calls and by the unverified one, in one run. Both check that the tables are sound by
-//! making them anew; both work on a fresh copy of the tables each time, which is counted.
+//! making them anew; both work on a fresh copy of the tables each time, which is counted. A listing has a fullest desk of
+//! its own, on which it tries the most spans, and a typical one.
 
 use std::hint::black_box;
 
 use desk_bench::fast;
-use desk_tests::plain::Desk;
+use desk_tests::plain::{Booking, Desk, Walk};
 use desk_tests::sessions::fullest;
 use desk_tests::tables::{self, Tables};
-use desk_tests::{exported, Request};
+use desk_tests::{exported, Link, Request};
+use desk_tests::{BOOKINGS, EVENTS, LINKS, LIST_FIGURES, MAX_CAPACITY, MAX_MINUTE, PATH_LINKS};
 use timing::{compare, nanoseconds};
 
 const TURNS: u32 = 20;
@@ -58,6 +60,67 @@ fn time_form(desk: &Desk) {
     println!("form of a public call: {form:.0} ns of {whole:.0} ns, ratio to the core {:.4}", whole / (whole - form));
 }
 
+/// Times a listing whose ranges are those of the independent desk.
+fn time_list(what: &str, desk: &Desk, request: &Request) {
+    let links = &desk.links;
+    let ranges = desk.ranges(request, Walk::ToLastEvent).len() as u32;
+    let what = &format!("list, {what}, ranges {ranges}");
+    time(
+        what,
+        desk,
+        |t| exported::list(links, t, request, &mut [0; LIST_FIGURES]) == Ok(ranges),
+        |t| fast::list(links, &lent(t), request, &mut [0; LIST_FIGURES]) == Ok(ranges),
+    );
+}
+
+/// The listing that tries the most spans, over the most rows, each with the longest search: a line of 32 nodes with 64
+/// links, 64 bookings of all 31 hops, and 129 events. The request lasts so long that each event but the last is tried twice,
+/// in a span that ends with it, with all rows before it, and in one that begins with it, with all rows behind it. The
+/// former have a path of 31 links; the latter meet the last booking, which takes the only first link. Each spare link is
+/// taken by another booking, so that a search over the same links as the one before is rare.
+fn longest_listing() -> (Desk, Request) {
+    let nodes = PATH_LINKS as u32;
+    let (first, spares) = (LINKS as u32 - 1, LINKS as u32 - nodes);
+    let hop = |from: u32, capacity: u32| Link { from, to: from + 1, capacity };
+    // The spare links, the links of the line from its end, and its first link.
+    let spare = |link: u32| hop(1 + link % (nodes - 1), 1_000);
+    let lines = (1..nodes).rev().map(|from| hop(from, MAX_CAPACITY));
+    let links: Vec<Link> = (0..spares).map(spare).chain(lines).chain([hop(0, MAX_CAPACITY / 10)]).collect();
+    let line: Vec<u32> = (spares..=first).rev().collect();
+    let mut desk = Desk::set_up(&links).expect("valid links");
+    let (bandwidth, duration, others) = (1_000, 1_000, BOOKINGS as u32 - 1);
+    for number in 1..=others {
+        let mut path = line.clone();
+        if number <= spares {
+            path[links[number as usize - 1].from as usize] = number - 1;
+        }
+        desk.bookings.push(Booking { number, start: duration + number, duration: others, bandwidth, path });
+    }
+    let last = duration + 2 * others + 1;
+    let whole = links[first as usize].capacity;
+    desk.bookings.push(Booking { number: others + 1, start: last, duration: 1, bandwidth: whole, path: line });
+    assert_eq!(desk.events().len(), EVENTS);
+    (desk, Request { from: 0, to: nodes, bandwidth, duration, earliest: 0, latest: MAX_MINUTE })
+}
+
+/// A day on a ring of eight nodes with links both ways: 24 bookings of one to four hours, and two hours asked for.
+fn typical_listing() -> (Desk, Request) {
+    let ring = |node: u32| {
+        let (from, to, capacity) = (node, (node + 1) % 8, 1_000);
+        [Link { from, to, capacity }, Link { from: to, to: from, capacity }]
+    };
+    let links: Vec<Link> = (0..8).flat_map(ring).collect();
+    let mut desk = Desk::set_up(&links).expect("valid links");
+    let request = Request { from: 0, to: 3, bandwidth: 600, duration: 120, earliest: 0, latest: 1_440 };
+    for number in 1..=24 {
+        let (from, to) = (number % 8, (number + 1 + number % 3) % 8);
+        let (bandwidth, duration, earliest) = (300 + 100 * (number % 5), 60 * (1 + number % 4), number * 7 % 24 * 60);
+        let booking = Request { from, to, bandwidth, duration, earliest, latest: MAX_MINUTE };
+        desk.book(number, &booking).expect("a later start");
+    }
+    (desk, request)
+}
+
 fn main() {
     let desk = fullest();
     let links = &desk.links;
@@ -101,4 +164,8 @@ fn main() {
         |t| fast::move_clock(links, &mut lent(t), 500).is_ok(),
     );
     time("show", &desk, |t| exported::show(links, t, 0, 500).is_ok(), |t| fast::show(links, &lent(t), 0, 500).is_ok());
+    let (desk, request) = longest_listing();
+    time_list("the most spans", &desk, &request);
+    let (desk, request) = typical_listing();
+    time_list("a typical day", &desk, &request);
 }
