@@ -162,6 +162,7 @@ fn damaged_and_forged_tables() {
     let mut random = Random::new(SEED + 1);
     let (mut damages, mut by_refusal) = (0u32, [0u32; 14]);
     for seed in SEED.. {
+        let _seed = Seed(seed);
         let mut history = History::new(seed);
         for step in 0..60 {
             history.step();
@@ -188,6 +189,7 @@ fn damaged_and_forged_tables() {
 fn two_histories_to_the_same_bookings() {
     let mut detours = 0u32;
     for seed in SEED + 2..SEED + 202 {
+        let _seed = Seed(seed);
         let mut history = History::new(seed);
         let mut straight = set_up(&history.desk.links, &mut Random::new(seed));
         let mut around = set_up(&history.desk.links, &mut Random::new(seed + 1));
