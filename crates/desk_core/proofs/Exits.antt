@@ -7,10 +7,11 @@ use native.Mathlib.Omega.{arith}
 use Rattle.units.specs.declared.Link.{Link}
 use Rattle.units.specs.declared.Head.{Head}
 use Rattle.choice.specs.declared.ChoiceRecord.{ChoiceRecord}
+use Rattle.desk_core.specs.declared.Listed.{Listed}
 use Rattle.desk_core.specs.Plain.{Plain}
 use Rattle.desk_core.specs.Calls.{Ask, book, offer, list, cancel, move-clock, show, Call, set-up, ask, Answer, done, refuse, values, Check, check, checked, first-refusal, own-checks, result, answer}
 use Rattle.desk_core.specs.Tables.{Tables, Outcome, sized, links-ok, sound, list-fits, held, answer-on, left-by, outcome}
-use Rattle.desk_core.specs.Lent.{lent, granted, shown, granted-answer, shown-answer, refusal-answer, head-after, events-after, free-after, book-after}
+use Rattle.desk_core.specs.Lent.{lent, granted, listed, list-left, shown, granted-answer, listed-answer, list-after, shown-answer, refusal-answer, head-after, events-after, free-after, book-after}
 use Rattle.desk_core.proofs.Checks.{Passed, passed-answer, stopped-answer}
 
 -- a refusal, with the tables as they came
@@ -132,6 +133,11 @@ module _ (links : List Link) (t : Tables) (c : Call) (o : Outcome) (e : outcome 
   pub handed-shown : shown (o .answer) ≡ shown-answer links t c
   unfolding shown-answer
   handed-shown = sym (ap (λ x. shown (x .answer)) e)
+
+  -- a listing, with the list as it was lent and as it is left
+  pub handed-listing : (old : List ℕ) {a : Listed} {new : List ℕ} → a ≡ listed (o .answer) → new ≡ list-left (o .answer) old → (a ≡ listed-answer links t c) × (new ≡ list-after links t c old)
+  unfolding listed-answer list-after
+  handed-listing old a q = (a ∙ sym (ap (λ x. listed (x .answer)) e), q ∙ sym (ap (λ x. list-left (x .answer) old) e))
 
   -- a call that hands back a number beside the head
   pub handed : {k : ℕ} {head : Head} {events free places : List ℕ} → k ≡ values (o .answer) .number → lent head events free places ≡ o .tables
