@@ -1,0 +1,94 @@
+-- The desk lists every start there is.
+use mathlib.Core.Path.{_≡_, refl, sym, _∙_, ap}
+use mathlib.Core.Logic.{_↔_, _⊎_}
+use mathlib.Core.List.{List, [], _∷_, List·Memᴰ}
+use mathlib.Core.Bool.{Bool, true, false, false≢true}
+use Prim.Native.Nat.{ℕ, _≤_}
+use native.Mathlib.Omega.{arith}
+use lib.ListN.{length}
+use Rattle.units.specs.declared.Link.{Link}
+use Rattle.units.specs.declared.Request.{Request}
+use Rattle.units.specs.Limits.{most-ranges}
+use Rattle.units.specs.Lists.{All}
+use Rattle.units.proofs.Tests.{Tells}
+use Rattle.timeline.specs.Events.{events}
+use Rattle.timeline.proofs.Steady.{NoneBetween}
+use Rattle.path_search.specs.Paths.{Graph, Route, route}
+use Rattle.path_search.proofs.Routes.{RouteView, found, no-chain, route-view}
+use Rattle.choice.specs.Choice.{Grant, Choice, granted, no-start, is-along, possible, choose}
+use Rattle.listing.specs.Ranges.{Range, ranges}
+use Rattle.listing.specs.Right.{ranges-with, Apart}
+use Rattle.desk_core.specs.Plain.{Plain, graph, carries, low}
+use Rattle.desk_core.specs.Calls.{list, offer, ask, Answer, done, starts, lists, shows, refused, refuse, chosen, best, every}
+use Rattle.desk_core.specs.Tables.{Tables, outcome, held, events-of}
+use Rattle.desk_core.specs.Sound.{Obeys}
+use Rattle.desk_core.specs.Demands.{Passes, PathAt, InWindow, all-checks}
+use Rattle.desk_core.specs.Listing.{PossibleAt, RightListing, EveryStart}
+use Rattle.desk_core.proofs.Uses.{all-times}
+use Rattle.desk_core.proofs.Checks.{starts≢refuse, Passed, passed-answer, passed-done}
+use Rattle.desk_core.proofs.Tests.{nodes-below, RequestRight, request-right}
+use Rattle.desk_core.proofs.Choices.{choice, carries-tells, way-path, path-way}
+use Rattle.desk_core.proofs.Obeys.{sound-obeys, few-events}
+use Rattle.desk_core.proofs.EventsSuffice.{carries-back}
+use Rattle.desk_core.proofs.Demand1.{answer-is}
+
+-- ---- a minute is possible by the search if and only if it is by some path
+
+module _ (links : List Link) (p : Plain) (r : Request) (o : Obeys links p) (q : RequestRight r) where
+  abbrev possible-at : ℕ → Bool
+  possible-at = possible (graph links) (carries links p r) (r .from) (r .to)
+
+  pub possible-tells : (m : ℕ) → Tells (possible-at m) ((path : List ℕ) × PathAt links p r m path)
+  unfolding possible
+  possible-tells m = by (route (graph links) (carries links p r m) (r .to) (r .from)) (route-view (graph links) (carries links p r m) (r .to) (r .from) (q .ends-differ) (nodes-below links (o .links-right)) (q .from-right))
+    where
+      by : (x : Route) → RouteView (graph links) (carries links p r m) (r .to) (r .from) (q .ends-differ) (nodes-below links (o .links-right)) (q .from-right) x → Tells (is-along x) ((path : List ℕ) × PathAt links p r m path)
+      by x (found path i) = ((λ e. (path, way-path links p r (q .bandwidth-right .0) m path (i .chain))), λ w. refl)
+      by x (no-chain h) = ((λ e. absurd (false≢true e)), λ w. absurd (h (w .0) (path-way links p r (q .bandwidth-right .0) m (w .0) (w .1))))
+
+  impossible : (m : ℕ) → ¬ PossibleAt links p r m → low p r ≤ m → m ≤ r .latest .0 → possible-at m ≡ false
+  impossible m h a b = by (possible-at m) (possible-tells m)
+    where
+      by : (x : Bool) → Tells x ((path : List ℕ) × PathAt links p r m path) → x ≡ false
+      by true t = absurd (h ((a, b), t .0 refl))
+      by false t = refl
+
+  -- what a link carries from m on it carries from an earlier minute on, if no time lies between
+  back : (k m l : ℕ) → k ≤ m → NoneBetween (all-times p) k m → carries links p r m l ≡ true → carries links p r k l ≡ true
+  back k m l h n e = carries-tells links p r (q .bandwidth-right .0) k l .1 (carries-back links p r k m l h n (carries-tells links p r (q .bandwidth-right .0) m l .0 e))
+
+-- ---- the answers
+
+abbrev listed-in : Answer → List Range
+listed-in done = []
+listed-in (starts g) = []
+listed-in (lists rs) = rs
+listed-in (shows x) = []
+listed-in (refused k) = []
+
+chosen-none : (c : Choice) {k : ℕ} → chosen c ≡ refuse k → c ≡ no-start
+chosen-none (granted g) e = starts≢refuse e
+chosen-none no-start e = refl
+
+chosen-granted : (c : Choice) (g : Grant) → chosen c ≡ starts g → c ≡ granted g
+chosen-granted (granted h) g e = let q : h ≡ g = cc in ap granted q
+chosen-granted no-start g e = starts≢refuse (sym e)
+
+module _ (links : List Link) (t : Tables) (n : ℕ) (r : Request) (passes : Passes links t (ask (list n r))) where
+  passed : Passed (all-checks links t (ask (list n r)))
+  passed = passed-done (all-checks links t (ask (list n r))) passes
+
+  obeyed : Obeys links (held t)
+  obeyed = sound-obeys links t (passed .1 .1 .0)
+
+  asked : RequestRight r
+  asked = request-right r (passed .1 .1 .1 .1 .0)
+
+  list-answer : outcome links t (ask (list n r)) .answer ≡ lists (every links (held t) r)
+  list-answer = answer-is links t (ask (list n r)) ∙ passed-answer (all-checks links t (ask (list n r))) (lists (every links (held t) r)) passed
+
+  -- the offer of the same fields passes too
+  offer-answer : outcome links t (ask (offer r)) .answer ≡ best links (held t) r
+  offer-answer =
+      answer-is links t (ask (offer r))
+      ∙ passed-answer (all-checks links t (ask (offer r))) (best links (held t) r) (passed .0, (refl, (passed .1 .1 .0, passed .1 .1 .1 .1)))
