@@ -1,33 +1,38 @@
 -- The desk lists every start there is.
 use mathlib.Core.Path.{_≡_, refl, sym, _∙_, ap}
 use mathlib.Core.Logic.{_↔_, _⊎_, inl, inr, ⊎-elim}
-use mathlib.Core.List.{List, [], _∷_, List·Memᴰ}
+use mathlib.Core.List.{List, [], _∷_, map, List·Memᴰ}
 use mathlib.Core.Bool.{Bool, true, false≢true}
 use Prim.Native.Nat.{ℕ, _≤_}
 use native.Mathlib.Nat.{le-trans}
 use native.Mathlib.Omega.{arith}
 use Rattle.units.specs.declared.Link.{Link}
 use Rattle.units.specs.declared.Request.{Request}
+use Rattle.units.specs.Limits.{list-size}
+use Rattle.units.specs.Lists.{member, sum, all, select}
+use Rattle.units.specs.Search.{firstFrom, allFrom, anyBelow}
 use Rattle.units.proofs.Tests.{Tells}
 use Rattle.units.proofs.Parts.{all-map}
 use Rattle.timeline.proofs.Steady.{NoneBetween}
-use Rattle.path_search.specs.Paths.{Route, route}
+use Rattle.path_search.specs.Paths.{reaches, lowest, fewest, Route, route}
 use Rattle.path_search.proofs.Routes.{RouteView, found, no-chain, route-view}
-use Rattle.choice.specs.Choice.{Grant, Choice, granted, no-start, is-along, possible}
-use Rattle.listing.specs.Ranges.{Range}
+use Rattle.choice.specs.Choice.{Grant, Choice, granted, no-start, is-along, possible, choose}
+use Rattle.listing.specs.Ranges.{Range, rangesFrom, ranges}
 use Rattle.listing.proofs.Theorems.{listed-once, listed-no-other, ranges-apart, AtStart, ranges-begin, ranges-fit, empty-iff, first-is-start}
 use Rattle.desk_core.specs.Plain.{Plain, graph, carries, low}
-use Rattle.desk_core.specs.Calls.{list, offer, ask, Answer, done, starts, lists, shows, refused, refuse, chosen, best, every}
-use Rattle.desk_core.specs.Tables.{Tables, outcome, held, events-of}
+use Rattle.desk_core.specs.Calls.{Ask, book, list, offer, set-up, ask, Answer, done, starts, lists, shows, refused, refuse, checked, chosen, best, every, answer}
+use Rattle.desk_core.specs.Tables.{Tables, sized, outcome, held, events-of}
 use Rattle.desk_core.specs.Sound.{Obeys}
-use Rattle.desk_core.specs.Demands.{Passes, PathAt, all-checks}
+use Rattle.desk_core.specs.Demands.{Passes, PathAt, all-checks, answers}
+use Rattle.desk_core.specs.Examples.{start-at, request, only}
 use Rattle.desk_core.specs.Listing.{RightListing, EveryStart}
 use Rattle.desk_core.proofs.Uses.{all-times}
 use Rattle.desk_core.proofs.Checks.{starts≢refuse, Passed, passed-answer, passed-done}
-use Rattle.desk_core.proofs.Tests.{nodes-below, RequestRight, request-right}
+use Rattle.desk_core.proofs.Tests.{links-tell, nodes-below, RequestRight, request-right}
 use Rattle.desk_core.proofs.Choices.{choice, carries-tells, way-path, path-way}
 use Rattle.desk_core.proofs.Obeys.{sound-obeys, few-events}
 use Rattle.desk_core.proofs.EventsSuffice.{carries-back}
+use Rattle.desk_core.proofs.Replies.{replies, replies-after}
 use Rattle.desk_core.proofs.Demand1.{answer-is}
 
 -- ---- a minute is possible by the search if and only if it is by some path
@@ -119,3 +124,19 @@ every-start = record {
   );
   first-is = λ links t n r h x rs e g f. first-listed links (held t) r x rs g (ap listed-in (sym (list-answer links t n r h) ∙ e)) (sym (offer-answer links t n r h) ∙ f);
 }
+
+-- For example, one link that is sold full in minutes 3 and 4: two ranges of a window, none of another, and refusals 13, 4 and 5.
+abbrev calls : List Ask
+calls =
+    book 1 (request 0 2 1 2 3 3)
+    ∷ list list-size (request 0 2 1 2 0 6)
+    ∷ list list-size (request 0 2 1 2 2 4)
+    ∷ list 257 (request 2 2 1 2 0 6)
+    ∷ list list-size (request 2 2 1 2 0 6)
+    ∷ list list-size (request 0 2 1 2 6 5)
+    ∷ []
+
+pub example : (t : Tables) → sized (only 1) t ≡ true → answers outcome (only 1) t (set-up ∷ map ask calls)
+    ≡ done ∷ start-at 3 (0 ∷ []) ∷ lists (record { first = 0; last = 1 } ∷ record { first = 5; last = 6 } ∷ []) ∷ lists [] ∷ refuse 13 ∷ refuse 4 ∷ refuse 5 ∷ []
+unfolding replies answer checked best every ranges rangesFrom select member sum all choose possible reaches lowest fewest route firstFrom allFrom anyBelow
+example t size = replies-after (only 1) (links-tell (only 1) .0 refl) t size calls
