@@ -133,6 +133,12 @@ module _ (test : ℕ → Bool) where
             (λ k. inr (k .0, k .1, omega (arith, k .2, is .not-before, is .some), k .3)) (b .fresh);
       }
 
+  -- ---- they are as long as they can be
+
+  ends-at : (i e : ℕ) (rs : List Range) → AreRanges test i e rs → All (λ s. suc (s .last) < e → test (suc (s .last)) ≡ false) rs
+  ends-at i e [] a = tt
+  ends-at i e (r ∷ rs) a = let is = a .0 in (is .stops, ends-at (suc (r .last)) e rs (a .1))
+
 -- ---- a rising list whose numbers are all in another is no longer
 
 abbrev firsts : List Range → List ℕ
@@ -179,16 +185,33 @@ module _ (g : Graph) (carries : ℕ → ℕ → Bool) (from to low latest : ℕ)
   unfolding ranges
   ranges-are = are-ranges test low (suc latest - low)
 
+  -- m is a possible minute of the window
+  abbrev pub Possible : ℕ → Type 0
+  Possible m = (low ≤ m) × (m ≤ latest) × (test m ≡ true)
+
   -- Each possible minute of the window is in exactly one range, and no other minute is in any.
   pub listed-once : (m : ℕ) → low ≤ m → m ≤ latest → test m ≡ true → ranges-with m listed ≡ 1
   listed-once m a b p = in-one test low end m listed ranges-are (a, omega arith, p)
 
-  pub listed-no-other : (m : ℕ) → ¬ ((low ≤ m) × (m ≤ latest) × (test m ≡ true)) → ranges-with m listed ≡ 0
+  pub listed-no-other : (m : ℕ) → ¬ Possible m → ranges-with m listed ≡ 0
   listed-no-other m h = in-none test low end m listed ranges-are (λ w. h (w .0, omega (arith, w .0, w .1), w .2))
 
   -- They rise, and no two touch.
   pub ranges-apart : Apart listed
   ranges-apart = all-apart test low end listed ranges-are
+
+  -- Each is as long as it can be: the minutes before its first and after its last are not possible, or not of the window.
+  pub ranges-longest : All (λ r. ((m : ℕ) → r .first ≡ suc m → ¬ Possible m) × ¬ Possible (suc (r .last))) listed
+  ranges-longest = both listed (begins test low end listed ranges-are) (ends-at test low end listed ranges-are)
+    where
+      before : (x : ℕ) → Begins test low end x → (m : ℕ) → x ≡ suc m → ¬ Possible m
+      before x b m q w =
+          ⊎-elim (λ (s : x ≡ low). absurd (omega (arith, w .0))) (λ k. let same : k .0 ≡ m = omega (arith, k .1) in clash (w .2) (rw same at (k .3))) (b .fresh)
+
+      both : (rs : List Range) → All (λ r. Begins test low end (r .first)) rs → All (λ r. suc (r .last) < end → test (suc (r .last)) ≡ false) rs
+          → All (λ r. ((m : ℕ) → r .first ≡ suc m → ¬ Possible m) × ¬ Possible (suc (r .last))) rs
+      both [] a b = tt
+      both (r ∷ rs) a b = ((before (r .first) (a .0), λ w. clash (w .2) (b .0 (omega (arith, w .0, w .1)))), both rs (a .1) (b .1))
 
   -- ---- beside the choice
 
