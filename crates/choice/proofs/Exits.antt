@@ -3,12 +3,15 @@ use mathlib.Core.Path.{_≡_, refl, sym, _∙_, ap, subst}
 use mathlib.Core.List.{List}
 use mathlib.Core.Bool.{Bool, true, false}
 use Prim.Native.Nat.{ℕ, _≤_, _<_}
+use native.Mathlib.Decide.{decLt}
 use native.Mathlib.Omega.{arith}
+use borrow.Author.Tests.{lt-ltb, le-ltb}
+use lib.Dec.{ltb}
 use lib.ListN.{length, getD, length-append, List·getD-eq-default}
 use Rattle.units.specs.Limits.{most-events}
 use Rattle.units.specs.Lists.{padded}
 use Rattle.units.proofs.Tests.{Side, below, above, side}
-use Rattle.units.proofs.Padded.{padded-at, padded-past}
+use Rattle.units.proofs.Padded.{padded-get}
 use Rattle.timeline.specs.Events.{events}
 use Rattle.timeline.proofs.Steady.{NoneBetween, ChangesAt}
 use Rattle.free_table.specs.Figures.{kept}
@@ -21,7 +24,7 @@ use Rattle.path_search.proofs.Answers.{route-sized, answer-none}
 use Rattle.choice.specs.declared.Chosen.{Chosen}
 use Rattle.choice.specs.Choice.{granted, route-at, possible, choose}
 use Rattle.choice.specs.Answer.{carries, Askable, start-with, refusal, chosen}
-use Rattle.choice.proofs.Starts.{Tried, choose-none, choose-low, choose-event, choose-none-left, choose-too-late, none-impossible}
+use Rattle.choice.proofs.Starts.{Tried, choose-none, choose-low, choose-event, choose-none-left, choose-too-late, along-possible, none-impossible}
 use Rattle.choice.proofs.Lent.{carries-back}
 
 -- ---- a route by its count of links
@@ -40,6 +43,14 @@ module _ (g : Graph) (usable : ℕ → ℕ → Bool) (from to m : ℕ) (r : Path
   no-route few =
       none-impossible g usable from to m
       (answer-none (route-at g usable from to m) (route-sized g (usable m) to from) (omega (arith, ap (λ (p : Path). p .count) answered)))
+
+  -- so the start is possible if and only if there is one
+  pub possible-counts : ltb 0 (r .count) ≡ possible g usable from to m
+  possible-counts =
+      elim (decLt 0 (r .count)) [
+        | yes h ↦ lt-ltb 0 (r .count) h ∙ sym (along-possible g usable from to m (route-found h .1))
+        | no h ↦ le-ltb 0 (r .count) (omega arith) ∙ sym (no-route (omega arith))
+      ]
 
 -- ---- the exits
 
@@ -71,11 +82,7 @@ module _ (g : Graph) (es t : List ℕ) (bandwidth duration from to low latest c 
 
   -- a place of the table has its event, and zero behind the last one
   place : (i : ℕ) → getD es i 0 ≡ getD (events c ts) i 0
-  place i = ap (λ x. getD x i 0) shown ∙ by (side i (length (events c ts)))
-    where
-      by : Side i (length (events c ts)) → getD (padded most-events (events c ts)) i 0 ≡ getD (events c ts) i 0
-      by (below h) = padded-at most-events (events c ts) i h
-      by (above h) = padded-past most-events (events c ts) i h ∙ sym (List·getD-eq-default (events c ts) 0 h)
+  place i = ap (λ x. getD x i 0) shown ∙ padded-get most-events (events c ts) i
 
   tried-events : (i : ℕ) → Tried test es low latest i → Tried test (events c ts) low latest i
   tried-events i h = record { not-low = h .not-low; not-events = λ j a b d. rw (place j) at (h .not-events j a (rw (place j) b) (rw (place j) d)) }

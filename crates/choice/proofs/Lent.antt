@@ -1,8 +1,9 @@
--- Spans on the lent tables: what carries a span carries it from an earlier start, and a span is read off its rows.
+-- Spans on the lent tables: what carries a span carries it from an earlier start and from a later one, where no time lies
+-- between; and a span is read off its rows.
 use mathlib.Core.Path.{_≡_, sym, _∙_, ap, subst}
 use mathlib.Core.List.{List}
 use mathlib.Core.Bool.{Bool, true}
-use Prim.Native.Nat.{ℕ, _+_, _-_, _≤_}
+use Prim.Native.Nat.{ℕ, _+_, _-_, _≤_, _<_}
 use native.Mathlib.Omega.{arith}
 use Rattle.units.specs.Limits.{most-events}
 use Rattle.units.specs.Lists.{padded}
@@ -11,7 +12,7 @@ use Rattle.units.proofs.Tests.{at-most}
 use Rattle.units.proofs.Search.{allFrom-all, all-allFrom}
 use Rattle.timeline.specs.Events.{events}
 use Rattle.timeline.proofs.Steady.{NoneBetween, ChangesAt}
-use Rattle.timeline.proofs.Spans.{span-back}
+use Rattle.timeline.proofs.Spans.{span-back, span-on}
 use Rattle.free_table.specs.Figures.{kept}
 use Rattle.free_table.specs.Looking.{enough-span}
 use Rattle.free_table.proofs.SpanCheck.{enough-span-kept}
@@ -27,6 +28,13 @@ module _ (figure : ℕ → ℕ → ℕ) (bandwidth duration : ℕ) where
   carries-back ts l s k m h q e =
       all-allFrom (fits l) k duration
       (λ j a b. at-most bandwidth (figure l j) .1 (span-back (figure l) (λ x. bandwidth ≤ x) ts s k m duration h q (λ i a b. at-most bandwidth (figure l i) .0 (allFrom-all (fits l) m duration e i a b)) j a b))
+
+  -- and the one from a later k, if none of the times lies between the last minutes of the two
+  pub carries-on : (ts : List ℕ) (l : ℕ) → ChangesAt ts (figure l) → (m k : ℕ) → m ≤ k → 0 < duration → NoneBetween ts (m + duration - 1) (k + duration - 1)
+      → carries figure bandwidth duration m l ≡ true → carries figure bandwidth duration k l ≡ true
+  carries-on ts l s m k h some q e =
+      all-allFrom (fits l) k duration
+      (λ j a b. at-most bandwidth (figure l j) .1 (span-on (figure l) (λ x. bandwidth ≤ x) ts s m k duration h some q (λ i a b. at-most bandwidth (figure l i) .0 (allFrom-all (fits l) m duration e i a b)) j a b))
 
 -- the rows of a span have the bandwidth if and only if the span's minutes have
 pub enough-span-carries : (c : ℕ) (ts es t : List ℕ) → es ≡ padded most-events (events c ts) → (l bandwidth start d : ℕ) → c ≤ start → 1 ≤ d

@@ -1,4 +1,4 @@
--- On fine tables the chooser may be asked, and what it answers is the plain book's best start.
+-- On fine tables the chooser may be asked, and what it answers is the plain book's best start; so are the ranges listed.
 use mathlib.Core.Path.{_≡_, refl, sym, _∙_, ap, ap₂}
 use mathlib.Core.Bool.{false, and-eq-true-iff}
 use borrow.Author.Tests.{not-true, ltb-true}
@@ -17,15 +17,18 @@ use Rattle.free_table.proofs.Figures.{kept-figure}
 use Rattle.path_search.specs.declared.Path.{Path}
 use Rattle.path_search.specs.Answer.{InRange}
 use Rattle.path_search.specs.Answer as search
+use Rattle.path_search.proofs.Agree.{Agree}
 use Rattle.choice.specs.declared.StartChoice.the-variants.{Start, Refused}
 use Rattle.choice.specs.declared.Chosen.{Chosen}
 use Rattle.choice.specs.Choice.{Grant, Choice, granted, no-start, choose}
 use Rattle.choice.specs.Answer.{Askable}
 use Rattle.choice.specs.Answer as answers
 use Rattle.choice.proofs.Figures.{choose-agree, carries-shown}
+use Rattle.listing.specs.Ranges.{ranges}
+use Rattle.listing.proofs.Laws.{ranges-agree}
 use Rattle.units.specs.declared.LinkTable.{LinkTable}
 use Rattle.desk_core.specs.Plain.{Booking, terms, graph, free, carries, low}
-use Rattle.desk_core.specs.Calls.{Ask, starts, refuse, best, stands, number-ok, request-ok, own-checks}
+use Rattle.desk_core.specs.Calls.{Ask, starts, refuse, best, every, stands, number-ok, request-ok, own-checks}
 use Rattle.desk_core.specs.Calls.{chosen as desk-chosen}
 use Rattle.desk_core.specs.Tables.{Tables, held}
 use Rattle.units.specs.LinkTables.{links-of}
@@ -71,20 +74,30 @@ module _ (links : LinkTable) (t : Tables) (f : Fine (links-of links) t) where
     abbrev pub by-book : Choice
     by-book = choose (graph (links-of links)) (carries (links-of links) (held t) r) (r .from) (r .to) (low (held t) r) (r .latest .0)
 
-    pub same-choice : by-tables ≡ by-book
-    same-choice =
-        choose-agree (search.graph (ends-of links)) (graph (links-of links)) (answers.carries (kept (t .events) (t .free)) (r .bandwidth .0) (r .duration .0)) (carries (links-of links) (held t) r) (r .from) (r .to) (low (held t) r) (r .latest .0)
-        (λ m a b. record {
-          count = sym (links-count links);
-          from = λ l h. sym (from-column links l h);
-          to = λ l h. sym (to-column links l h);
-          usable = λ l h. usable-same m l (omega arith) (rw (links-count links) h);
-        })
+    -- the links, and what they carry from low on, are the same
+    agree : (m : ℕ) → low (held t) r ≤ m → m ≤ r .latest .0
+        → Agree (search.graph (ends-of links)) (graph (links-of links)) (answers.carries (kept (t .events) (t .free)) (r .bandwidth .0) (r .duration .0) m) (carries (links-of links) (held t) r m)
+    agree m a b = record {
+      count = sym (links-count links);
+      from = λ l h. sym (from-column links l h);
+      to = λ l h. sym (to-column links l h);
+      usable = λ l h. usable-same m l (omega arith) (rw (links-count links) h);
+    }
       where
         usable-same : (m l : ℕ) → t .head .clock .0 ≤ m → l < length (links-of links) → answers.carries (kept (t .events) (t .free)) (r .bandwidth .0) (r .duration .0) m l ≡ carries (links-of links) (held t) r m l
         usable-same m l a h =
             ap₂ (λ es fr. answers.carries (kept es fr) (r .bandwidth .0) (r .duration .0) m l) (events-are f) (free-are f)
             ∙ carries-shown (length (links-of links)) (free (links-of links) (held t)) (sizes f .links-right .1) (t .head .clock .0) (all-times (held t)) (λ k j. free-changes (links-of links) (held t) k) (r .bandwidth .0) (r .duration .0) m l a h
+
+    pub same-choice : by-tables ≡ by-book
+    same-choice =
+        choose-agree (search.graph (ends-of links)) (graph (links-of links)) (answers.carries (kept (t .events) (t .free)) (r .bandwidth .0) (r .duration .0)) (carries (links-of links) (held t) r) (r .from) (r .to) (low (held t) r) (r .latest .0) agree
+
+    -- the ranges by the tables are those by the plain book
+    pub same-ranges : ranges (search.graph (ends-of links)) (answers.carries (kept (t .events) (t .free)) (r .bandwidth .0) (r .duration .0)) (r .from) (r .to) (low (held t) r) (r .latest .0) ≡ every (links-of links) (held t) r
+    unfolding every
+    same-ranges =
+        ranges-agree (search.graph (ends-of links)) (graph (links-of links)) (answers.carries (kept (t .events) (t .free)) (r .bandwidth .0) (r .duration .0)) (carries (links-of links) (held t) r) (r .from) (r .to) (low (held t) r) (r .latest .0) agree
 
     -- a start that the chooser answers is the plain book's grant, with its path
     pub record Started (start : Minute) (path : Path) : Type 0 where

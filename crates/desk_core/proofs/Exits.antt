@@ -7,10 +7,11 @@ use native.Mathlib.Omega.{arith}
 use Rattle.units.specs.declared.Link.{Link}
 use Rattle.units.specs.declared.Head.{Head}
 use Rattle.choice.specs.declared.ChoiceRecord.{ChoiceRecord}
+use Rattle.desk_core.specs.declared.Listed.{Listed}
 use Rattle.desk_core.specs.Plain.{Plain}
-use Rattle.desk_core.specs.Calls.{Ask, book, offer, cancel, move-clock, show, Call, set-up, ask, Answer, done, refuse, values, Check, check, checked, first-refusal, own-checks, result, answer}
-use Rattle.desk_core.specs.Tables.{Tables, Outcome, sized, links-ok, sound, held, answer-on, left-by, outcome}
-use Rattle.desk_core.specs.Lent.{lent, granted, shown, granted-answer, shown-answer, refusal-answer, head-after, events-after, free-after, book-after}
+use Rattle.desk_core.specs.Calls.{Ask, book, offer, list, cancel, move-clock, show, Call, set-up, ask, Answer, done, refuse, values, Check, check, checked, first-refusal, own-checks, result, answer}
+use Rattle.desk_core.specs.Tables.{Tables, Outcome, sized, links-ok, sound, list-fits, held, answer-on, left-by, outcome}
+use Rattle.desk_core.specs.Lent.{lent, granted, listed, list-left, shown, granted-answer, listed-answer, list-after, shown-answer, refusal-answer, head-after, events-after, free-after, book-after}
 use Rattle.desk_core.proofs.Checks.{Passed, passed-answer, stopped-answer}
 
 -- a refusal, with the tables as they came
@@ -41,6 +42,7 @@ decided (check zero false ∷ cs) n = absurd (let h = n .0 in omega arith)
 own-numbered : (links : List Link) (p : Plain) (a : Ask) → Numbered (own-checks links p a)
 own-numbered links p (book n r) = (omega arith, (omega arith, (omega arith, (omega arith, tt))))
 own-numbered links p (offer r) = (omega arith, (omega arith, tt))
+own-numbered links p (list n r) = (omega arith, (omega arith, (omega arith, tt)))
 own-numbered links p (cancel n) = (omega arith, (omega arith, tt))
 own-numbered links p (move-clock m) = (omega arith, (omega arith, tt))
 own-numbered links p (show l m) = (omega arith, tt)
@@ -49,6 +51,7 @@ left-refused : (links : List Link) (t : Tables) (c : Call) (k : ℕ) → left-by
 left-refused links t set-up k = refl
 left-refused links t (ask (book n r)) k = refl
 left-refused links t (ask (offer r)) k = refl
+left-refused links t (ask (list n r)) k = refl
 left-refused links t (ask (cancel n)) k = refl
 left-refused links t (ask (move-clock m)) k = refl
 left-refused links t (ask (show l m)) k = refl
@@ -75,32 +78,36 @@ module _ (links : List Link) (t : Tables) where
   unfolding answer-on checked
   set-up-done s e = outcome-of set-up done (rw (s, e))
 
-  pub unsound : (a : Ask) → sized links t ≡ true → sound links t ≡ false → outcome links t (ask a) ≡ refused-with 3 t
+  pub list-unfit : (a : Ask) → sized links t ≡ true → list-fits a ≡ false → outcome links t (ask a) ≡ refused-with 13 t
   unfolding answer-on checked
-  unsound a s e = refused-outcome (ask a) 3 (rw (s, e))
+  list-unfit a s f = refused-outcome (ask a) 13 (rw (s, f))
 
-  module _ (a : Ask) (s : sized links t ≡ true) (e : sound links t ≡ true) where
+  pub unsound : (a : Ask) → sized links t ≡ true → list-fits a ≡ true → sound links t ≡ false → outcome links t (ask a) ≡ refused-with 3 t
+  unfolding answer-on checked
+  unsound a s f e = refused-outcome (ask a) 3 (rw (s, f, e))
+
+  module _ (a : Ask) (s : sized links t ≡ true) (f : list-fits a ≡ true) (e : sound links t ≡ true) where
     answered : answer-on links t (ask a) ≡ checked (own-checks links (held t) a) (result links (held t) a)
     unfolding answer-on answer checked
-    answered = rw (s, e)
+    answered = rw (s, f, e)
 
     -- the call's own checks, by the number that the code computes
     pub stopped : (k : ℕ) → first-refusal (own-checks links (held t) a) ≡ k → (k ≡ 0 → ⊥) → outcome links t (ask a) ≡ refused-with k t
     stopped k q ne = by (decided (own-checks links (held t) a) (own-numbered links (held t) a))
       where
         by : Decided (own-checks links (held t) a) → outcome links t (ask a) ≡ refused-with k t
-        by (stops j p f) = let h : suc j ≡ k = sym p ∙ q in refused-outcome (ask a) k (answered ∙ stopped-answer (own-checks links (held t) a) (suc j) (result links (held t) a) f ∙ ap refuse h)
-        by (passes p f) = absurd (ne (sym q ∙ p))
+        by (stops j p c) = let h : suc j ≡ k = sym p ∙ q in refused-outcome (ask a) k (answered ∙ stopped-answer (own-checks links (held t) a) (suc j) (result links (held t) a) c ∙ ap refuse h)
+        by (passes p c) = absurd (ne (sym q ∙ p))
 
     pub all-passed : first-refusal (own-checks links (held t) a) ≡ 0 → Passed (own-checks links (held t) a)
     all-passed q = by (decided (own-checks links (held t) a) (own-numbered links (held t) a))
       where
         by : Decided (own-checks links (held t) a) → Passed (own-checks links (held t) a)
-        by (stops j p f) = absurd (let h : suc j ≡ 0 = sym p ∙ q in omega arith)
-        by (passes p f) = f
+        by (stops j p c) = absurd (let h : suc j ≡ 0 = sym p ∙ q in omega arith)
+        by (passes p c) = c
 
     pub accepted : first-refusal (own-checks links (held t) a) ≡ 0 → (r : Answer) → result links (held t) a ≡ r → outcome links t (ask a) ≡ record { answer = r; tables = left-by links t (ask a) r }
-    accepted q r f = outcome-of (ask a) r (answered ∙ passed-answer (own-checks links (held t) a) (result links (held t) a) (all-passed q) ∙ f)
+    accepted q r c = outcome-of (ask a) r (answered ∙ passed-answer (own-checks links (held t) a) (result links (held t) a) (all-passed q) ∙ c)
 
 -- ---- as the contracts of the calls put it
 
@@ -126,6 +133,11 @@ module _ (links : List Link) (t : Tables) (c : Call) (o : Outcome) (e : outcome 
   pub handed-shown : shown (o .answer) ≡ shown-answer links t c
   unfolding shown-answer
   handed-shown = sym (ap (λ x. shown (x .answer)) e)
+
+  -- a listing, with the list as it was lent and as it is left
+  pub handed-listing : (old : List ℕ) {a : Listed} {new : List ℕ} → a ≡ listed (o .answer) → new ≡ list-left (o .answer) old → (a ≡ listed-answer links t c) × (new ≡ list-after links t c old)
+  unfolding listed-answer list-after
+  handed-listing old a q = (a ∙ sym (ap (λ x. listed (x .answer)) e), q ∙ sym (ap (λ x. list-left (x .answer) old) e))
 
   -- a call that hands back a number beside the head
   pub handed : {k : ℕ} {head : Head} {events free places : List ℕ} → k ≡ values (o .answer) .number → lent head events free places ≡ o .tables

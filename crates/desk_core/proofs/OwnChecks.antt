@@ -9,7 +9,7 @@ use native.Mathlib.Omega.{arith}
 use lib.ListN.{length, length-map}
 use Rattle.units.specs.declared.Request.{Request}
 use Rattle.units.specs.declared.Link.{Link}
-use Rattle.units.specs.Limits.{most-bookings, last-minute, last-shown}
+use Rattle.units.specs.Limits.{most-bookings, last-minute, last-shown, list-size}
 use Rattle.units.specs.Lists.{within, member, count-from}
 use Rattle.units.specs.Search.{firstFrom}
 use Rattle.units.proofs.Search.{first-here, first-after}
@@ -36,6 +36,11 @@ unfolding checked
 left-to-book true true behind h = refl
 left-to-book true false behind h = absurd (let z : _≡_ {A = ℕ} 5 0 = h in omega arith)
 left-to-book false window behind h = absurd (let z : _≡_ {A = ℕ} 4 0 = h in omega arith)
+
+-- a listing whose list fits is checked as an offer
+pub listed-as-offer : (links : List Link) (p : Plain) (n : ℕ) (r : Request) → eqb n list-size ≡ true → first-refusal (own-checks links p (Ask.list n r)) ≡ first-refusal (own-checks links p (Ask.offer r))
+unfolding checked
+listed-as-offer links p n r e = rw e
 
 -- as many bookings are read as the head says
 pub count-read : (clock : ℕ) (book : List ℕ) (n : ℕ) → length (plain-in clock book n .bookings) ≡ n

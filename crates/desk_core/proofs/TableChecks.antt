@@ -12,15 +12,15 @@ use Rattle.units.specs.Limits.{most-links, most-bookings, most-events, place-si
 use Rattle.units.specs.Lists.{within}
 use Rattle.units.proofs.Tests.{_&_, in-range, equals}
 use Rattle.units.specs.declared.LinkTable.{LinkTable}
-use Rattle.desk_core.specs.Calls.{Ask, ask, checked}
-use Rattle.desk_core.specs.Tables.{Tables, sizes-ok, sized, sound, tables-refusal, outcome}
+use Rattle.desk_core.specs.Calls.{Ask, ask, checked, first-refusal}
+use Rattle.desk_core.specs.Tables.{Tables, sizes-ok, sized, sound, list-fits, lent-checks, outcome}
 use Rattle.units.specs.LinkTables.{links-of}
 use Rattle.desk_core.specs.Lent.{lent}
 use Rattle.desk_core.specs.Updating.{Fine}
 use Rattle.desk_core.proofs.Tests.{sized-tells}
 use Rattle.desk_core.proofs.Obeys.{sound-facts}
 use Rattle.desk_core.proofs.LinkColumns.{links-count}
-use Rattle.desk_core.proofs.Exits.{refused-with, unsized, unsound}
+use Rattle.desk_core.proofs.Exits.{refused-with, unsized, list-unfit, unsound}
 
 module _ (links : LinkTable) (head : Head) (events free places : List ℕ) where
   -- sizes by the count of the columns
@@ -33,35 +33,52 @@ few-links links events free places e =
     (in-range 1 most-links links & equals events most-events & equals free (most-events * most-links) & equals places (most-bookings * place-size)) .0 e .0 .0 .0 .1
 
 module _ (links : List Link) (t : Tables) where
-  pub says-1 : sized links t ≡ false → tables-refusal links t ≡ 1
-  unfolding checked
-  says-1 e = rw e
+  -- by whether a lent list fits
+  module _ (fits : Bool) where
+    abbrev pub lent-refusal : ℕ
+    lent-refusal = first-refusal (lent-checks links t fits)
 
-  pub says-3 : sized links t ≡ true → sound links t ≡ false → tables-refusal links t ≡ 3
-  unfolding checked
-  says-3 s e = rw (s, e)
+    pub says-1 : sized links t ≡ false → lent-refusal ≡ 1
+    unfolding checked
+    says-1 s = rw s
 
-  pub says-0 : sized links t ≡ true → sound links t ≡ true → tables-refusal links t ≡ 0
-  unfolding checked
-  says-0 s e = rw (s, e)
+    pub says-13 : sized links t ≡ true → fits ≡ false → lent-refusal ≡ 13
+    unfolding checked
+    says-13 s f = rw (s, f)
 
-  -- passed: the tables are fine
-  pub fine : tables-refusal links t ≡ 0 → Fine links t
-  fine q = by (sized links t) (sound links t) refl refl
-    where
-      by : (x y : Bool) → sized links t ≡ x → sound links t ≡ y → Fine links t
-      by true true s e = record { is-sized = s; is-sound = e }
-      by true false s e = absurd (let z : _≡_ {A = ℕ} 3 0 = sym (says-3 s e) ∙ q in omega arith)
-      by false y s e = absurd (let z : _≡_ {A = ℕ} 1 0 = sym (says-1 s) ∙ q in omega arith)
+    pub says-3 : sized links t ≡ true → fits ≡ true → sound links t ≡ false → lent-refusal ≡ 3
+    unfolding checked
+    says-3 s f e = rw (s, f, e)
+
+    pub says-0 : sized links t ≡ true → fits ≡ true → sound links t ≡ true → lent-refusal ≡ 0
+    unfolding checked
+    says-0 s f e = rw (s, f, e)
+
+    -- passed: the tables are fine, and the list fits
+    all-fine : lent-refusal ≡ 0 → Fine links t × (fits ≡ true)
+    all-fine q = by (sized links t) fits (sound links t) refl refl refl
+      where
+        by : (x y z : Bool) → sized links t ≡ x → fits ≡ y → sound links t ≡ z → Fine links t × (fits ≡ true)
+        by true true true s f e = (record { is-sized = s; is-sound = e }, f)
+        by true true false s f e = absurd (let z : _≡_ {A = ℕ} 3 0 = sym (says-3 s f e) ∙ q in omega arith)
+        by true false z s f e = absurd (let z : _≡_ {A = ℕ} 13 0 = sym (says-13 s f) ∙ q in omega arith)
+        by false y z s f e = absurd (let z : _≡_ {A = ℕ} 1 0 = sym (says-1 s) ∙ q in omega arith)
+
+    pub fine : lent-refusal ≡ 0 → Fine links t
+    fine q = all-fine q .0
+
+    pub list-fine : lent-refusal ≡ 0 → fits ≡ true
+    list-fine q = all-fine q .1
 
   -- not passed: a refusal with that number
-  pub tables-refused : (a : Ask) (k : ℕ) → k ≡ tables-refusal links t → (k ≡ 0 → ⊥) → outcome links t (ask a) ≡ refused-with k t
-  tables-refused a k q ne = by (sized links t) (sound links t) refl refl
+  pub tables-refused : (a : Ask) (k : ℕ) → k ≡ lent-refusal (list-fits a) → (k ≡ 0 → ⊥) → outcome links t (ask a) ≡ refused-with k t
+  tables-refused a k q ne = by (sized links t) (list-fits a) (sound links t) refl refl refl
     where
-      by : (x y : Bool) → sized links t ≡ x → sound links t ≡ y → outcome links t (ask a) ≡ refused-with k t
-      by true true s e = absurd (ne (q ∙ says-0 s e))
-      by true false s e = unsound links t a s e ∙ ap (λ j. refused-with j t) (sym (q ∙ says-3 s e))
-      by false y s e = unsized links t (ask a) s ∙ ap (λ j. refused-with j t) (sym (q ∙ says-1 s))
+      by : (x y z : Bool) → sized links t ≡ x → list-fits a ≡ y → sound links t ≡ z → outcome links t (ask a) ≡ refused-with k t
+      by true true true s f e = absurd (ne (q ∙ says-0 (list-fits a) s f e))
+      by true true false s f e = unsound links t a s f e ∙ ap (λ j. refused-with j t) (sym (q ∙ says-3 (list-fits a) s f e))
+      by true false z s f e = list-unfit links t a s f ∙ ap (λ j. refused-with j t) (sym (q ∙ says-13 (list-fits a) s f))
+      by false y z s f e = unsized links t (ask a) s ∙ ap (λ j. refused-with j t) (sym (q ∙ says-1 (list-fits a) s))
 
 -- a figure in range is not below the range
 pub range-low : (low high x : ℕ) → within low high x ≡ true → low ≤ x

@@ -96,7 +96,7 @@ fn next_start(
     latest: Minute,
 ) -> u32
     requires { ⌜ Askable ends (now events) (now free) (duration .0) (end .0) (latest .0) ⌝
-        ∗ ⌜ end .0 ≤ latest .0 → possible (graph ends) (carries (kept (now events) (now free)) (bandwidth .0) (duration .0)) source destination (end .0) ≡ false ⌝ }
+        ∗ ⌜ (end .0 ≤ latest .0 → possible (graph ends) (carries (kept (now events) (now free)) (bandwidth .0) (duration .0)) source destination (end .0) ≡ false) ⌝ }
     ensures { λ r. ⌜ r ≡ start-or (suc (latest .0)) (choose (graph ends) (carries (kept (now (events .entry)) (now (free .entry))) (bandwidth .0) (duration .0)) source destination (end .0) (latest .0)) ⌝ }
 {
     if latest.0 < end.0 {

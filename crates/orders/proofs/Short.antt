@@ -19,7 +19,7 @@ use Rattle.record.specs.declared.OrderRead.the-variants as reads
 use Rattle.record.specs.Records.{order-read}
 use Rattle.record.specs.Values.{request-of}
 use Rattle.desk_core.specs.Plain.{Plain, low, graph, carries}
-use Rattle.desk_core.specs.Calls.{Ask, book, offer, cancel, move-clock, show, ask, Answer, refuse, values, Check, check, checked, own-checks, chosen, best, result, answer}
+use Rattle.desk_core.specs.Calls.{Ask, book, offer, list, cancel, move-clock, show, ask, Answer, refuse, values, Check, check, checked, own-checks, chosen, best, result, answer}
 use Rattle.desk_core.specs.Tables.{Tables, held, table-checks, answer-on, outcome}
 use Rattle.orders.specs.Ordered.{by-reading, answered, ordered}
 
@@ -59,6 +59,7 @@ result-short : (links : List Link) (p : Plain) (a : Ask) → Short (result links
 unfolding best
 result-short links p (book n r) = choose-short (graph links) (carries links p r) (r .from) (r .to) (low p r) (r .latest .0)
 result-short links p (offer r) = choose-short (graph links) (carries links p r) (r .from) (r .to) (low p r) (r .latest .0)
+result-short links p (list n r) = omega arith
 result-short links p (cancel n) = omega arith
 result-short links p (move-clock m) = omega arith
 result-short links p (show l m) = omega arith

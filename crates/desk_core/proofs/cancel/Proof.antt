@@ -1,5 +1,6 @@
 -- `cancel` meets its contract: each way out is one of the outcome's.
 use mathlib.Core.Path.{_≡_, refl, sym, _∙_}
+use mathlib.Core.Bool.{true}
 use native.Mathlib.Omega.{arith}
 use borrow.Author.Needs.{needs}
 use borrow.Author.Tests.{not-true, not-false}
@@ -49,8 +50,8 @@ returns-2 : tie.Need-returns-2
 returns-2 c = let a = c .before .before .before .before .before .before .before .before .before .before .args in
     let l = links-of (a .links) in
     let t = lent (a .head) (now (a .events)) (now (a .free)) (now (a .book)) in
-    let f = fine l t (sym (c .before .before .before .table-refusal .ensures) ∙ c .before .before .if1 .left) in
-    handed l t (ask (Ask.cancel (a .number))) (refused-with 4 t) (stopped l t (Ask.cancel (a .number)) (f .is-sized) (f .is-sound) 4 (cancel-4 l (held t) (a .number) (sym (c .before .in-range .ensures) ∙ not-true _ (c .if2 .taken))) (λ e. let z : _≡_ {A = ℕ} 4 0 = e in omega arith)) refl refl
+    let f = fine l t true (sym (c .before .before .before .table-refusal .ensures) ∙ c .before .before .if1 .left) in
+    handed l t (ask (Ask.cancel (a .number))) (refused-with 4 t) (stopped l t (Ask.cancel (a .number)) (f .is-sized) refl (f .is-sound) 4 (cancel-4 l (held t) (a .number) (sym (c .before .in-range .ensures) ∙ not-true _ (c .if2 .taken))) (λ e. let z : _≡_ {A = ℕ} 4 0 = e in omega arith)) refl refl
 
 cast-find : tie.Need-cast-find
 cast-find c = search needs
@@ -59,7 +60,7 @@ find-requires : tie.Need-find-requires
 find-requires c κs = let a = c .before .before .before .before .before .before .before .before .before .before .before .before .args in
     let l = links-of (a .links) in
     let t = lent (a .head) (now (a .events)) (now (a .free)) (now (a .book)) in
-    places-fit (a .links) t (fine l t (sym (c .before .before .before .before .before .table-refusal .ensures) ∙ c .before .before .before .before .if1 .left))
+    places-fit (a .links) t (fine l t true (sym (c .before .before .before .before .before .table-refusal .ensures) ∙ c .before .before .before .before .if1 .left))
 
 enum-known-place : tie.Need-enum-known-place
 enum-known-place c = search needs
@@ -80,15 +81,15 @@ returns-3 : tie.Need-returns-3
 returns-3 c = let a = c .before .before .before .before .before .before .before .before .before .before .before .before .before .before .before .args in
     let l = links-of (a .links) in
     let t = lent (a .head) (now (a .events)) (now (a .free)) (now (a .book)) in
-    let f = fine l t (sym (c .before .before .before .before .before .before .before .before .table-refusal .ensures) ∙ c .before .before .before .before .before .before .before .if1 .left) in
+    let f = fine l t true (sym (c .before .before .before .before .before .before .before .before .table-refusal .ensures) ∙ c .before .before .before .before .before .before .before .if1 .left) in
     let none = stands-found (a .head .clock .0) (now (a .book)) (a .head .bookings) (a .number) (sym (c .before .before .find .ensures) ∙ c .enum-told .given .1) in
-    handed l t (ask (Ask.cancel (a .number))) (refused-with 9 t) (stopped l t (Ask.cancel (a .number)) (f .is-sized) (f .is-sound) 9 (cancel-9 l (held t) (a .number) (sym (c .before .before .before .before .before .before .in-range .ensures) ∙ not-false _ (c .before .before .before .before .before .if2 .left)) none) (λ e. let z : _≡_ {A = ℕ} 9 0 = e in omega arith)) refl refl
+    handed l t (ask (Ask.cancel (a .number))) (refused-with 9 t) (stopped l t (Ask.cancel (a .number)) (f .is-sized) refl (f .is-sound) 9 (cancel-9 l (held t) (a .number) (sym (c .before .before .before .before .before .before .in-range .ensures) ∙ not-false _ (c .before .before .before .before .before .if2 .left)) none) (λ e. let z : _≡_ {A = ℕ} 9 0 = e in omega arith)) refl refl
 
 release-place-requires : tie.Need-release-place-requires
 release-place-requires c κs = let a = c .before .before .before .before .before .before .before .before .before .before .before .before .before .before .before .before .before .before .before .args in
     let l = links-of (a .links) in
     let t = lent (a .head) (now (a .events)) (now (a .free)) (now (a .book)) in
-    (fine l t (sym (c .before .before .before .before .before .before .before .before .before .before .before .before .table-refusal .ensures) ∙ c .before .before .before .before .before .before .before .before .before .before .before .if1 .left), sym (c .before .before .before .before .before .before .find .ensures) ∙ c .before .before .before .before .place .given .1)
+    (fine l t true (sym (c .before .before .before .before .before .before .before .before .before .before .before .before .table-refusal .ensures) ∙ c .before .before .before .before .before .before .before .before .before .before .before .if1 .left), sym (c .before .before .before .before .before .before .find .ensures) ∙ c .before .before .before .before .place .given .1)
 
 same-length-10 : tie.Need-same-length-10
 same-length-10 c = search needs
@@ -103,9 +104,9 @@ returns-4 : tie.Need-returns-4
 returns-4 c = let a = c .before .before .before .before .before .before .before .before .before .before .before .before .before .before .before .before .before .before .before .before .before .before .before .before .before .before .args in
     let l = links-of (a .links) in
     let t = lent (a .head) (now (a .events)) (now (a .free)) (now (a .book)) in
-    let f = fine l t (sym (c .before .before .before .before .before .before .before .before .before .before .before .before .before .before .before .before .before .before .before .table-refusal .ensures) ∙ c .before .before .before .before .before .before .before .before .before .before .before .before .before .before .before .before .before .before .if1 .left) in
+    let f = fine l t true (sym (c .before .before .before .before .before .before .before .before .before .before .before .before .before .before .before .before .before .before .before .table-refusal .ensures) ∙ c .before .before .before .before .before .before .before .before .before .before .before .before .before .before .before .before .before .before .if1 .left) in
     let some = stands-found (a .head .clock .0) (now (a .book)) (a .head .bookings) (a .number) (sym (c .before .before .before .before .before .before .before .before .before .before .before .before .before .find .ensures) ∙ c .before .before .before .before .before .before .before .before .before .before .before .place .given .1) in
-    handed l t (ask (Ask.cancel (a .number))) _ (accepted l t (Ask.cancel (a .number)) (f .is-sized) (f .is-sound) (cancel-0 l (held t) (a .number) (sym (c .before .before .before .before .before .before .before .before .before .before .before .before .before .before .before .before .before .in-range .ensures) ∙ not-false _ (c .before .before .before .before .before .before .before .before .before .before .before .before .before .before .before .before .if2 .left)) some) done refl) refl (c .before .before .before .before .before .before .release-place .ensures)
+    handed l t (ask (Ask.cancel (a .number))) _ (accepted l t (Ask.cancel (a .number)) (f .is-sized) refl (f .is-sound) (cancel-0 l (held t) (a .number) (sym (c .before .before .before .before .before .before .before .before .before .before .before .before .before .before .before .before .before .in-range .ensures) ∙ not-false _ (c .before .before .before .before .before .before .before .before .before .before .before .before .before .before .before .before .if2 .left)) some) done refl) refl (c .before .before .before .before .before .before .release-place .ensures)
 
 pub cancel-spec : {M : Type 1} → statement M
 cancel-spec = tie.close (tie.spec table-refusal-requires same-length same-length-2 same-length-3 returns in-range-requires same-length-4 same-length-5 same-length-6 returns-2 cast-find find-requires enum-known-place enum-told same-length-7 same-length-8 same-length-9 returns-3 release-place-requires same-length-10 same-length-11 same-length-12 returns-4)

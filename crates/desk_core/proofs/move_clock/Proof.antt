@@ -1,5 +1,6 @@
 -- `move_clock` meets its contract: each way out is one of the outcome's.
 use mathlib.Core.Path.{_≡_, refl, sym, _∙_}
+use mathlib.Core.Bool.{true}
 use native.Mathlib.Omega.{arith}
 use borrow.Author.Needs.{needs}
 use denote.Ref.{now}
@@ -45,8 +46,8 @@ returns-2 : tie.Need-returns-2
 returns-2 c = let a = c .before .before .before .before .before .before .before .before .before .before .args in
     let l = links-of (a .links) in
     let t = lent (a .head) (now (a .events)) (now (a .free)) (now (a .book)) in
-    let f = fine l t (sym (c .before .before .before .table-refusal .ensures) ∙ c .before .before .if1 .left) in
-    handed l t (ask (Ask.move-clock (a .minute .0))) (refused-with 4 t) (stopped l t (Ask.move-clock (a .minute .0)) (f .is-sized) (f .is-sound) 4 (move-4 l (held t) (a .minute .0) (c .if2 .taken)) (λ e. let z : _≡_ {A = ℕ} 4 0 = e in omega arith)) refl refl
+    let f = fine l t true (sym (c .before .before .before .table-refusal .ensures) ∙ c .before .before .if1 .left) in
+    handed l t (ask (Ask.move-clock (a .minute .0))) (refused-with 4 t) (stopped l t (Ask.move-clock (a .minute .0)) (f .is-sized) refl (f .is-sound) 4 (move-4 l (held t) (a .minute .0) (c .if2 .taken)) (λ e. let z : _≡_ {A = ℕ} 4 0 = e in omega arith)) refl refl
 
 same-length-7 : tie.Need-same-length-7
 same-length-7 c = search needs
@@ -61,14 +62,14 @@ returns-3 : tie.Need-returns-3
 returns-3 c = let a = c .before .before .before .before .before .before .before .before .before .before .before .before .before .args in
     let l = links-of (a .links) in
     let t = lent (a .head) (now (a .events)) (now (a .free)) (now (a .book)) in
-    let f = fine l t (sym (c .before .before .before .before .before .before .table-refusal .ensures) ∙ c .before .before .before .before .before .if1 .left) in
-    handed l t (ask (Ask.move-clock (a .minute .0))) (refused-with 10 t) (stopped l t (Ask.move-clock (a .minute .0)) (f .is-sized) (f .is-sound) 10 (move-10 l (held t) (a .minute .0) (c .before .before .before .if2 .left) (c .if3 .taken)) (λ e. let z : _≡_ {A = ℕ} 10 0 = e in omega arith)) refl refl
+    let f = fine l t true (sym (c .before .before .before .before .before .before .table-refusal .ensures) ∙ c .before .before .before .before .before .if1 .left) in
+    handed l t (ask (Ask.move-clock (a .minute .0))) (refused-with 10 t) (stopped l t (Ask.move-clock (a .minute .0)) (f .is-sized) refl (f .is-sound) 10 (move-10 l (held t) (a .minute .0) (c .before .before .before .if2 .left) (c .if3 .taken)) (λ e. let z : _≡_ {A = ℕ} 10 0 = e in omega arith)) refl refl
 
 advance-requires : tie.Need-advance-requires
 advance-requires c κs = let a = c .before .before .before .before .before .before .before .before .before .before .before .before .before .before .before .before .args in
     let l = links-of (a .links) in
     let t = lent (a .head) (now (a .events)) (now (a .free)) (now (a .book)) in
-    (fine l t (sym (c .before .before .before .before .before .before .before .before .before .table-refusal .ensures) ∙ c .before .before .before .before .before .before .before .before .if1 .left), c .before .before .before .before .before .before .if2 .left)
+    (fine l t true (sym (c .before .before .before .before .before .before .before .before .before .table-refusal .ensures) ∙ c .before .before .before .before .before .before .before .before .if1 .left), c .before .before .before .before .before .before .if2 .left)
 
 same-length-10 : tie.Need-same-length-10
 same-length-10 c = search needs
@@ -83,8 +84,8 @@ returns-4 : tie.Need-returns-4
 returns-4 c = let a = c .before .before .before .before .before .before .before .before .before .before .before .before .before .before .before .before .before .before .before .before .before .before .before .args in
     let l = links-of (a .links) in
     let t = lent (a .head) (now (a .events)) (now (a .free)) (now (a .book)) in
-    let f = fine l t (sym (c .before .before .before .before .before .before .before .before .before .before .before .before .before .before .before .before .table-refusal .ensures) ∙ c .before .before .before .before .before .before .before .before .before .before .before .before .before .before .before .if1 .left) in
-    handed l t (ask (Ask.move-clock (a .minute .0))) _ (accepted l t (Ask.move-clock (a .minute .0)) (f .is-sized) (f .is-sound) (move-0 l (held t) (a .minute .0) (c .before .before .before .before .before .before .before .before .before .before .before .before .before .if2 .left) (c .before .before .before .before .before .before .before .before .before .before .if3 .left)) done refl) refl (c .before .before .before .before .before .before .advance .ensures)
+    let f = fine l t true (sym (c .before .before .before .before .before .before .before .before .before .before .before .before .before .before .before .before .table-refusal .ensures) ∙ c .before .before .before .before .before .before .before .before .before .before .before .before .before .before .before .if1 .left) in
+    handed l t (ask (Ask.move-clock (a .minute .0))) _ (accepted l t (Ask.move-clock (a .minute .0)) (f .is-sized) refl (f .is-sound) (move-0 l (held t) (a .minute .0) (c .before .before .before .before .before .before .before .before .before .before .before .before .before .if2 .left) (c .before .before .before .before .before .before .before .before .before .before .if3 .left)) done refl) refl (c .before .before .before .before .before .before .advance .ensures)
 
 pub move-clock-spec : {M : Type 1} → statement M
 move-clock-spec = tie.close (tie.spec table-refusal-requires same-length same-length-2 same-length-3 returns same-length-4 same-length-5 same-length-6 returns-2 same-length-7 same-length-8 same-length-9 returns-3 advance-requires same-length-10 same-length-11 same-length-12 returns-4)

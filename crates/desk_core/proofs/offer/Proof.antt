@@ -1,5 +1,6 @@
 -- `offer` meets its contract: each way out is one of the outcome's; the start is the plain book's best.
-use mathlib.Core.Path.{_≡_, sym, ap₂, _∙_}
+use mathlib.Core.Path.{_≡_, refl, sym, ap₂, _∙_}
+use mathlib.Core.Bool.{true}
 use borrow.Author.Needs.{needs}
 use denote.Ref.{now}
 use Rattle.choice.specs.declared.StartChoice.the-variants.{Start}
@@ -37,16 +38,16 @@ returns-2 : tie.Need-returns-2
 returns-2 c = let a = c .before .before .before .before .before .before .before .before .args in
     let l = links-of (a .links) in
     let t = lent (a .head) (now (a .events)) (now (a .free)) (now (a .book)) in
-    let f = fine l t (sym (c .before .before .before .before .table-refusal .ensures) ∙ c .before .before .before .if1 .left) in
-    c .refused2 .ensures ∙ handed-grant l t (ask (Ask.offer (a .request))) (refused-with _ t) (stopped l t (Ask.offer (a .request)) (f .is-sized) (f .is-sound) _ (sym (c .before .before .offer-refusal .ensures)) (c .before .if2 .taken))
+    let f = fine l t true (sym (c .before .before .before .before .table-refusal .ensures) ∙ c .before .before .before .if1 .left) in
+    c .refused2 .ensures ∙ handed-grant l t (ask (Ask.offer (a .request))) (refused-with _ t) (stopped l t (Ask.offer (a .request)) (f .is-sized) refl (f .is-sound) _ (sym (c .before .before .offer-refusal .ensures)) (c .before .if2 .taken))
 
 best-start-requires : tie.Need-best-start-requires
 best-start-requires c κs = let a = c .before .before .before .before .before .before .before .args in
     let l = links-of (a .links) in
     let t = lent (a .head) (now (a .events)) (now (a .free)) (now (a .book)) in
-    let f = fine l t (sym (c .before .before .before .table-refusal .ensures) ∙ c .before .before .if1 .left) in
+    let f = fine l t true (sym (c .before .before .before .table-refusal .ensures) ∙ c .before .before .if1 .left) in
     let passes : first-refusal (own-checks l (held t) (Ask.offer (a .request))) ≡ 0 = sym (c .before .offer-refusal .ensures) ∙ c .if2 .left in
-    let q = request-right (a .request) (all-passed l t (Ask.offer (a .request)) (f .is-sized) (f .is-sound) passes .0) in
+    let q = request-right (a .request) (all-passed l t (Ask.offer (a .request)) (f .is-sized) refl (f .is-sound) passes .0) in
     best-asks (a .links) t f (a .request) q
 
 enum-known-choice : tie.Need-enum-known-choice
@@ -62,11 +63,11 @@ returns-3 : tie.Need-returns-3
 returns-3 c = let a = c .before .before .before .before .before .before .before .before .before .before .before .before .args in
     let l = links-of (a .links) in
     let t = lent (a .head) (now (a .events)) (now (a .free)) (now (a .book)) in
-    let f = fine l t (sym (c .before .before .before .before .before .before .before .before .table-refusal .ensures) ∙ c .before .before .before .before .before .before .before .if1 .left) in
+    let f = fine l t true (sym (c .before .before .before .before .before .before .before .before .table-refusal .ensures) ∙ c .before .before .before .before .before .before .before .if1 .left) in
     let passes : first-refusal (own-checks l (held t) (Ask.offer (a .request))) ≡ 0 = sym (c .before .before .before .before .before .before .offer-refusal .ensures) ∙ c .before .before .before .before .before .if2 .left in
-    let q = request-right (a .request) (all-passed l t (Ask.offer (a .request)) (f .is-sized) (f .is-sound) passes .0) in
+    let q = request-right (a .request) (all-passed l t (Ask.offer (a .request)) (f .is-sized) refl (f .is-sound) passes .0) in
     let none = chosen-none (a .links) t f (a .request) q _ (c .before .before .before .before .best-start .ensures) _ (c .before .enum-told .given .1) in
-    c .refused3 .ensures ∙ handed-grant l t (ask (Ask.offer (a .request))) (_) (accepted l t (Ask.offer (a .request)) (f .is-sized) (f .is-sound) passes (refuse 8) (best-none (a .links) t f (a .request) q none))
+    c .refused3 .ensures ∙ handed-grant l t (ask (Ask.offer (a .request))) (_) (accepted l t (Ask.offer (a .request)) (f .is-sized) refl (f .is-sound) passes (refuse 8) (best-none (a .links) t f (a .request) q none))
 
 started-requires : tie.Need-started-requires
 started-requires c κs = search needs
@@ -75,11 +76,11 @@ returns-4 : tie.Need-returns-4
 returns-4 c = let a = c .before .before .before .before .before .before .before .before .before .before .before .before .before .args in
     let l = links-of (a .links) in
     let t = lent (a .head) (now (a .events)) (now (a .free)) (now (a .book)) in
-    let f = fine l t (sym (c .before .before .before .before .before .before .before .before .before .table-refusal .ensures) ∙ c .before .before .before .before .before .before .before .before .if1 .left) in
+    let f = fine l t true (sym (c .before .before .before .before .before .before .before .before .before .table-refusal .ensures) ∙ c .before .before .before .before .before .before .before .before .if1 .left) in
     let passes : first-refusal (own-checks l (held t) (Ask.offer (a .request))) ≡ 0 = sym (c .before .before .before .before .before .before .before .offer-refusal .ensures) ∙ c .before .before .before .before .before .before .if2 .left in
-    let q = request-right (a .request) (all-passed l t (Ask.offer (a .request)) (f .is-sized) (f .is-sound) passes .0) in
+    let q = request-right (a .request) (all-passed l t (Ask.offer (a .request)) (f .is-sized) refl (f .is-sound) passes .0) in
     let s = chosen-start (a .links) t f (a .request) q _ (c .before .before .before .before .before .best-start .ensures) _ (c .before .before .choice .given .1) in
-    c .started .ensures ∙ ap₂ (λ x y. values-of (Start x) y) (s .start-is) (s .path-is) ∙ handed-grant l t (ask (Ask.offer (a .request))) _ (accepted l t (Ask.offer (a .request)) (f .is-sized) (f .is-sound) passes (starts (s .grant)) (best-starts (a .links) t f (a .request) q (s .grant) (s .is-best)))
+    c .started .ensures ∙ ap₂ (λ x y. values-of (Start x) y) (s .start-is) (s .path-is) ∙ handed-grant l t (ask (Ask.offer (a .request))) _ (accepted l t (Ask.offer (a .request)) (f .is-sized) refl (f .is-sound) passes (starts (s .grant)) (best-starts (a .links) t f (a .request) q (s .grant) (s .is-best)))
 
 pub offer-spec : {M : Type 1} → statement M
 offer-spec = tie.close (tie.spec table-refusal-requires refused-requires returns offer-refusal-requires refused-requires-2 returns-2 best-start-requires enum-known-choice enum-told refused-requires-3 returns-3 started-requires returns-4)

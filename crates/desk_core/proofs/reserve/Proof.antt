@@ -8,7 +8,7 @@ use Rattle.desk_core.specs.Tables.{held}
 use Rattle.units.specs.LinkTables.{links-of}
 use Rattle.desk_core.specs.Lent.{lent}
 use Rattle.desk_core.proofs.Tests.{request-right}
-use mathlib.Core.Bool.{and-eq-true-iff}
+use mathlib.Core.Bool.{true, and-eq-true-iff}
 use Rattle.desk_core.specs.Calls.{Ask, ask, starts, refuse, first-refusal, own-checks, number-ok, request-ok, put-in}
 use Rattle.desk_core.specs.Tables.{tables}
 use Rattle.desk_core.proofs.Exits.{refused-with, stopped, all-passed, accepted, handed-booking}
@@ -42,7 +42,7 @@ book-refusal-requires : tie.Need-book-refusal-requires
 book-refusal-requires c κs = let a = c .before .before .before .before .before .before .before .before .before .args in
     let l = links-of (a .links) in
     let t = lent (a .head) (now (a .events)) (now (a .free)) (now (a .book)) in
-    places-fit (a .links) t (fine l t (sym (c .before .before .table-refusal .ensures) ∙ c .before .if1 .left))
+    places-fit (a .links) t (fine l t true (sym (c .before .before .table-refusal .ensures) ∙ c .before .if1 .left))
 
 refused-requires-2 : tie.Need-refused-requires-2
 refused-requires-2 c κs = search needs
@@ -60,16 +60,16 @@ returns-2 : tie.Need-returns-2
 returns-2 c = let a = c .before .before .before .before .before .before .before .before .before .before .before .before .args in
     let l = links-of (a .links) in
     let t = lent (a .head) (now (a .events)) (now (a .free)) (now (a .book)) in
-    let f = fine l t (sym (c .before .before .before .before .before .table-refusal .ensures) ∙ c .before .before .before .before .if1 .left) in
-    handed-booking l t (ask (Ask.book (a .number) (a .request))) (refused-with _ t) (stopped l t (Ask.book (a .number) (a .request)) (f .is-sized) (f .is-sound) _ (sym (c .before .before .book-refusal .ensures)) (c .before .if2 .taken)) (c .refused2 .ensures) refl
+    let f = fine l t true (sym (c .before .before .before .before .before .table-refusal .ensures) ∙ c .before .before .before .before .if1 .left) in
+    handed-booking l t (ask (Ask.book (a .number) (a .request))) (refused-with _ t) (stopped l t (Ask.book (a .number) (a .request)) (f .is-sized) refl (f .is-sound) _ (sym (c .before .before .book-refusal .ensures)) (c .before .if2 .taken)) (c .refused2 .ensures) refl
 
 best-start-requires : tie.Need-best-start-requires
 best-start-requires c κs = let a = c .before .before .before .before .before .before .before .before .before .before .before .before .before .args in
     let l = links-of (a .links) in
     let t = lent (a .head) (now (a .events)) (now (a .free)) (now (a .book)) in
-    let f = fine l t (sym (c .before .before .before .before .before .before .table-refusal .ensures) ∙ c .before .before .before .before .before .if1 .left) in
+    let f = fine l t true (sym (c .before .before .before .before .before .before .table-refusal .ensures) ∙ c .before .before .before .before .before .if1 .left) in
     let passes : first-refusal (own-checks l (held t) (Ask.book (a .number) (a .request))) ≡ 0 = sym (c .before .before .before .book-refusal .ensures) ∙ c .before .before .if2 .left in
-    let checks = all-passed l t (Ask.book (a .number) (a .request)) (f .is-sized) (f .is-sound) passes in
+    let checks = all-passed l t (Ask.book (a .number) (a .request)) (f .is-sized) refl (f .is-sound) passes in
     let q = request-right (a .request) (and-eq-true-iff (number-ok (a .number)) (request-ok (a .request)) .0 (checks .0) .1) in
     best-asks (a .links) t f (a .request) q
 
@@ -95,20 +95,20 @@ returns-3 : tie.Need-returns-3
 returns-3 c = let a = c .before .before .before .before .before .before .before .before .before .before .before .before .before .before .before .before .before .before .args in
     let l = links-of (a .links) in
     let t = lent (a .head) (now (a .events)) (now (a .free)) (now (a .book)) in
-    let f = fine l t (sym (c .before .before .before .before .before .before .before .before .before .before .before .table-refusal .ensures) ∙ c .before .before .before .before .before .before .before .before .before .before .if1 .left) in
+    let f = fine l t true (sym (c .before .before .before .before .before .before .before .before .before .before .before .table-refusal .ensures) ∙ c .before .before .before .before .before .before .before .before .before .before .if1 .left) in
     let passes : first-refusal (own-checks l (held t) (Ask.book (a .number) (a .request))) ≡ 0 = sym (c .before .before .before .before .before .before .before .before .book-refusal .ensures) ∙ c .before .before .before .before .before .before .before .if2 .left in
-    let checks = all-passed l t (Ask.book (a .number) (a .request)) (f .is-sized) (f .is-sound) passes in
+    let checks = all-passed l t (Ask.book (a .number) (a .request)) (f .is-sized) refl (f .is-sound) passes in
     let q = request-right (a .request) (and-eq-true-iff (number-ok (a .number)) (request-ok (a .request)) .0 (checks .0) .1) in
     let none = chosen-none (a .links) t f (a .request) q _ (c .before .before .before .before .best-start .ensures) _ (c .before .enum-told .given .1) in
-    handed-booking l t (ask (Ask.book (a .number) (a .request))) (_) (accepted l t (Ask.book (a .number) (a .request)) (f .is-sized) (f .is-sound) passes (refuse 8) (best-none (a .links) t f (a .request) q none)) (c .refused3 .ensures) refl
+    handed-booking l t (ask (Ask.book (a .number) (a .request))) (_) (accepted l t (Ask.book (a .number) (a .request)) (f .is-sized) refl (f .is-sound) passes (refuse 8) (best-none (a .links) t f (a .request) q none)) (c .refused3 .ensures) refl
 
 enter-requires : tie.Need-enter-requires
 enter-requires c κs = let a = c .before .before .before .before .before .before .before .before .before .before .before .before .before .before .before .before .before .before .before .before .before .args in
     let l = links-of (a .links) in
     let t = lent (a .head) (now (a .events)) (now (a .free)) (now (a .book)) in
-    let f = fine l t (sym (c .before .before .before .before .before .before .before .before .before .before .before .before .before .before .table-refusal .ensures) ∙ c .before .before .before .before .before .before .before .before .before .before .before .before .before .if1 .left) in
+    let f = fine l t true (sym (c .before .before .before .before .before .before .before .before .before .before .before .before .before .before .table-refusal .ensures) ∙ c .before .before .before .before .before .before .before .before .before .before .before .before .before .if1 .left) in
     let passes : first-refusal (own-checks l (held t) (Ask.book (a .number) (a .request))) ≡ 0 = sym (c .before .before .before .before .before .before .before .before .before .before .before .book-refusal .ensures) ∙ c .before .before .before .before .before .before .before .before .before .before .if2 .left in
-    let checks = all-passed l t (Ask.book (a .number) (a .request)) (f .is-sized) (f .is-sound) passes in
+    let checks = all-passed l t (Ask.book (a .number) (a .request)) (f .is-sized) refl (f .is-sound) passes in
     let q = request-right (a .request) (and-eq-true-iff (number-ok (a .number)) (request-ok (a .request)) .0 (checks .0) .1) in
     let s = chosen-start (a .links) t f (a .request) q _ (c .before .before .before .before .before .before .before .best-start .ensures) _ (c .before .before .before .before .choice .given .1) in
     (f, grantable (a .links) t f (a .request) q (a .number) _ _ s checks)
@@ -129,12 +129,12 @@ returns-4 : tie.Need-returns-4
 returns-4 c = let a = c .before .before .before .before .before .before .before .before .before .before .before .before .before .before .before .before .before .before .before .before .before .before .before .before .before .before .before .before .before .args in
     let l = links-of (a .links) in
     let t = lent (a .head) (now (a .events)) (now (a .free)) (now (a .book)) in
-    let f = fine l t (sym (c .before .before .before .before .before .before .before .before .before .before .before .before .before .before .before .before .before .before .before .before .before .before .table-refusal .ensures) ∙ c .before .before .before .before .before .before .before .before .before .before .before .before .before .before .before .before .before .before .before .before .before .if1 .left) in
+    let f = fine l t true (sym (c .before .before .before .before .before .before .before .before .before .before .before .before .before .before .before .before .before .before .before .before .before .before .table-refusal .ensures) ∙ c .before .before .before .before .before .before .before .before .before .before .before .before .before .before .before .before .before .before .before .before .before .if1 .left) in
     let passes : first-refusal (own-checks l (held t) (Ask.book (a .number) (a .request))) ≡ 0 = sym (c .before .before .before .before .before .before .before .before .before .before .before .before .before .before .before .before .before .before .before .book-refusal .ensures) ∙ c .before .before .before .before .before .before .before .before .before .before .before .before .before .before .before .before .before .before .if2 .left in
-    let checks = all-passed l t (Ask.book (a .number) (a .request)) (f .is-sized) (f .is-sound) passes in
+    let checks = all-passed l t (Ask.book (a .number) (a .request)) (f .is-sized) refl (f .is-sound) passes in
     let q = request-right (a .request) (and-eq-true-iff (number-ok (a .number)) (request-ok (a .request)) .0 (checks .0) .1) in
     let s = chosen-start (a .links) t f (a .request) q _ (c .before .before .before .before .before .before .before .before .before .before .before .before .before .before .before .best-start .ensures) _ (c .before .before .before .before .before .before .before .before .before .before .before .before .choice .given .1) in
-    handed-booking l t (ask (Ask.book (a .number) (a .request))) _ (accepted l t (Ask.book (a .number) (a .request)) (f .is-sized) (f .is-sound) passes (starts (s .grant)) (best-starts (a .links) t f (a .request) q (s .grant) (s .is-best)))
+    handed-booking l t (ask (Ask.book (a .number) (a .request))) _ (accepted l t (Ask.book (a .number) (a .request)) (f .is-sized) refl (f .is-sound) passes (starts (s .grant)) (best-starts (a .links) t f (a .request) q (s .grant) (s .is-best)))
     (c .started .ensures ∙ ap₂ (λ x y. values-of (Start x) y) (s .start-is) (s .path-is)) (c .before .before .before .before .before .before .before .enter .ensures ∙ ap (λ b. tables l (put-in b (held t))) (booked-is (a .links) t f (a .request) q (a .number) _ _ s))
 
 pub reserve-spec : {M : Type 1} → statement M

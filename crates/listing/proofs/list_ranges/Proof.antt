@@ -1,0 +1,206 @@
+-- list_ranges meets its contract. The ranges before `start` are found, counted and written.
+use mathlib.Core.Path.{_≡_, refl, sym, _∙_, ap, subst}
+use Prim.Native.Nat.{ℕ, suc, _-_, _+_, _*_, _≤_, _<_}
+use native.Mathlib.Omega.{arith}
+use mathlib.Core.List.{List}
+use lib.ListN.{length, length-set, length-append}
+use borrow.Author.Needs.{needs}
+use Rattle.units.specs.Limits.{most-ranges, list-size}
+use Rattle.free_table.specs.Figures.{kept}
+use Rattle.path_search.specs.Answer.{graph}
+use Rattle.choice.specs.Choice.{possible}
+use Rattle.choice.specs.Answer.{carries, Askable}
+use Rattle.path_search.specs.declared.LinkEnds.{LinkEnds}
+use Rattle.timeline.specs.Events.{events}
+use Rattle.listing.proofs.Runs.{back}
+use Rattle.listing.proofs.Found.{Listed, next-start, listed-first, start-passes, start-after, listed-few, listed-next, all-counted, all-written}
+use Rattle.listing.proofs.list_ranges.Statement.{statement}
+use Rattle.listing.proofs.list_ranges.Tie as tie
+use Rattle.listing.proofs.list_ranges.Reads as reads
+use Rattle.listing.proofs.list_ranges.Lts as lts
+use Rattle.listing.proofs.first_start.Reads as first-start-reads
+use Rattle.listing.proofs.next_start.Reads as next-start-reads
+use Rattle.listing.proofs.run_end.Reads as run-end-reads
+use Rattle.units.proofs.clear_from.Reads as clear-from-reads
+
+abbrev Inv-loop : tie.InvT-loop
+Inv-loop ends events free source destination bandwidth duration latest list₀ count₀ start₀ list count start =
+    Listed (possible (graph ends) (carries (kept events free) (bandwidth .0) (duration .0)) source destination) (latest .0) start₀ list count start
+
+abbrev μ-loop : tie.MeasureT-loop
+μ-loop ends events free source destination bandwidth duration latest list₀ count₀ start₀ list count start = suc (latest .0) - start
+
+-- src/lib.rt:186:9
+-- the minutes of the window from one on may be asked for
+askable-from : {ends : LinkEnds} {es t : List ℕ} {duration low latest : ℕ} → Askable ends es t duration low latest → (m : ℕ) → low ≤ m → Askable ends es t duration m latest
+askable-from a m early = record {
+  in-range = a .in-range;
+  sized = a .sized;
+  clock = a .clock;
+  times = a .times;
+  are-events = a .are-events;
+  not-past = omega (arith, a .not-past);
+  lasts = a .lasts;
+  in-time = a .in-time;
+}
+
+events-few : {ends : LinkEnds} {es t : List ℕ} {duration low latest : ℕ} (a : Askable ends es t duration low latest) → length (events (a .clock) (a .times)) ≤ most-ranges
+events-few a = omega (arith, a .sized .events-sized, simp (length-append) at (ap length (a .are-events)))
+
+first-start-requires : tie.Need-first-start-requires Inv-loop μ-loop
+first-start-requires c κs = c .before .before .before .pre .0
+
+-- src/lib.rt:197:5
+loop-holds : tie.Need-loop-holds Inv-loop μ-loop
+loop-holds c =
+    let s = c .before .before .before .before in
+    let a = s .args in
+    listed-first (graph (a .ends)) (carries (kept (a .events .now) (a .free .now)) (a .bandwidth .0) (a .duration .0)) (a .source) (a .destination) (a .low .0) (a .latest .0) (c .first-start .result) (c .first-start .ensures) (a .list .now) (s .pre .1)
+
+-- src/lib.rt:198:13
+run-end-requires : tie.Need-run-end-requires Inv-loop μ-loop
+run-end-requires c κs =
+    let s = c .before .before .before .before .before .before .before in
+    let a = s .args in
+    let p = s .pre .0 in
+    let l = c .before .before .loop in
+    let first = c .before .before .before .first-start in
+    let inside : l .start ≤ a .latest .0 = omega (arith, c .if1 .taken) in
+    (askable-from p (l .start) (start-after (graph (a .ends)) (carries (kept (a .events .now) (a .free .now)) (a .bandwidth .0) (a .duration .0)) (a .source) (a .destination) (a .low .0) (a .latest .0) (first .result) (first .ensures) (l .list) (l .count) (l .start) (l .inv) inside), (inside, start-passes (graph (a .ends)) (carries (kept (a .events .now) (a .free .now)) (a .bandwidth .0) (a .duration .0)) (a .source) (a .destination) (a .low .0) (a .latest .0) (first .result) (first .ensures) (l .list) (l .count) (l .start) (l .inv) inside))
+
+-- src/lib.rt:209:21
+-- where a range is found there is a place for it
+room : (c : lts.After-run-end (first-start-reads.Asked, first-start-reads.Learnt, run-end-reads.Asked, run-end-reads.Learnt, next-start-reads.Asked, next-start-reads.Learnt, clear-from-reads.Asked, clear-from-reads.Learnt) reads.Pre reads.Post Inv-loop μ-loop) → c .before .before .before .loop .count < most-ranges
+room c =
+    let s = c .before .before .before .before .before .before .before .before in
+    let a = s .args in
+    let p = s .pre .0 in
+    let l = c .before .before .before .loop in
+    let first = c .before .before .before .before .first-start in
+    let r = c .run-end in
+    listed-few (graph (a .ends)) (carries (kept (a .events .now) (a .free .now)) (a .bandwidth .0) (a .duration .0)) (a .source) (a .destination) (a .low .0) (a .latest .0) (first .result) (first .ensures) (l .list) (l .count) (l .start) (l .inv) (omega (arith, c .before .if1 .taken)) (r .result) (r .ensures) (p .clock) (p .times) (back (graph (a .ends)) (a .events .now) (a .free .now) (a .bandwidth .0) (a .duration .0) (a .source) (a .destination) (p .clock) (p .times) (p .are-events) (p .lasts .0)) (p .not-past) (events-few p)
+
+cast-place : tie.Need-cast-place Inv-loop μ-loop
+cast-place c = omega (arith, room c)
+
+-- src/lib.rt:209:21
+mul-place : tie.Need-mul-place Inv-loop μ-loop
+mul-place c = omega (arith, room c)
+
+-- src/lib.rt:210:9
+mul-list : tie.Need-mul-list Inv-loop μ-loop
+mul-list c = omega (arith, room c)
+
+-- src/lib.rt:210:9
+slice-write-list : tie.Need-slice-write-list Inv-loop μ-loop
+slice-write-list c = let size = c .before .before .before .loop .inv .sized in omega (arith, room c)
+
+-- src/lib.rt:211:27
+sub-list : tie.Need-sub-list Inv-loop μ-loop
+sub-list c = let r = c .run-end .ensures in omega (arith, r .after)
+
+-- src/lib.rt:211:14
+add-list : tie.Need-add-list Inv-loop μ-loop
+add-list c = omega (arith, room c)
+
+-- src/lib.rt:211:9
+mul-list-2 : tie.Need-mul-list-2 Inv-loop μ-loop
+mul-list-2 c = omega (arith, room c)
+
+-- src/lib.rt:211:9
+slice-write-list-2 : tie.Need-slice-write-list-2 Inv-loop μ-loop
+slice-write-list-2 c = let size = c .before .before .before .loop .inv .sized in simp length-set (omega (arith, room c))
+
+-- src/lib.rt:212:9
+add-count : tie.Need-add-count Inv-loop μ-loop
+add-count c = omega (arith, room c)
+
+-- src/lib.rt:213:9
+next-start-requires : tie.Need-next-start-requires Inv-loop μ-loop
+next-start-requires c κs =
+    let s = c .before .before .before .before .before .before .before .before in
+    let a = s .args in
+    let p = s .pre .0 in
+    let l = c .before .before .before .loop in
+    let first = c .before .before .before .before .first-start in
+    let r = c .run-end in
+    let inside : l .start ≤ a .latest .0 = omega (arith, c .before .if1 .taken) in
+    (askable-from p (r .result) (let early = start-after (graph (a .ends)) (carries (kept (a .events .now) (a .free .now)) (a .bandwidth .0) (a .duration .0)) (a .source) (a .destination) (a .low .0) (a .latest .0) (first .result) (first .ensures) (l .list) (l .count) (l .start) (l .inv) inside in omega (arith, r .ensures .after)), λ within. r .ensures .stops (omega arith))
+
+-- src/lib.rt:197:5
+loop-less : tie.Need-loop-less Inv-loop μ-loop
+loop-less c =
+    let s = c .before .before .before .before .before .before .before .before .before in
+    let a = s .args in
+    let p = s .pre .0 in
+    let l = c .before .before .before .before .loop in
+    let first = c .before .before .before .before .before .first-start in
+    let r = c .before .run-end in
+    let n = next-start (graph (a .ends)) (carries (kept (a .events .now) (a .free .now)) (a .bandwidth .0) (a .duration .0)) (a .source) (a .destination) (r .result) (a .latest .0) (c .next-start .result) (r .ensures .not-past) (c .next-start .ensures) in
+    omega (arith, r .ensures .after, n .not-before, c .before .before .if1 .taken)
+
+-- src/lib.rt:197:5
+loop-again : tie.Need-loop-again Inv-loop μ-loop
+loop-again c =
+    let s = c .before .before .before .before .before .before .before .before .before in
+    let a = s .args in
+    let p = s .pre .0 in
+    let l = c .before .before .before .before .loop in
+    let first = c .before .before .before .before .before .first-start in
+    let r = c .before .run-end in
+    let n = next-start (graph (a .ends)) (carries (kept (a .events .now) (a .free .now)) (a .bandwidth .0) (a .duration .0)) (a .source) (a .destination) (r .result) (a .latest .0) (c .next-start .result) (r .ensures .not-past) (c .next-start .ensures) in
+    listed-next (graph (a .ends)) (carries (kept (a .events .now) (a .free .now)) (a .bandwidth .0) (a .duration .0)) (a .source) (a .destination) (a .low .0) (a .latest .0) (first .result) (first .ensures) (l .list) (l .count) (l .start) (l .inv) (omega (arith, c .before .before .if1 .taken)) (r .result) (r .ensures) (c .next-start .result) n (room (c .before))
+
+-- src/lib.rt:225:22
+cast-clear-from : tie.Need-cast-clear-from Inv-loop μ-loop
+cast-clear-from c = let l = c .before .before .before .loop .inv in omega (arith, l .room)
+
+-- src/lib.rt:225:22
+mul-clear-from : tie.Need-mul-clear-from Inv-loop μ-loop
+mul-clear-from c = let l = c .before .before .before .loop .inv in omega (arith, l .room)
+
+-- src/lib.rt:225:5
+clear-from-requires : tie.Need-clear-from-requires Inv-loop μ-loop
+clear-from-requires c κs = let l = c .before .before .before .loop .inv in omega (arith, l .room, l .sized)
+
+-- src/lib.rt:169:1
+same-length : tie.Need-same-length Inv-loop μ-loop
+same-length c = c .before .before .clear-from .kept .0 ∙ c .before .before .before .before .before .before .loop .inv .sized ∙ sym (c .before .before .before .before .before .before .before .before .before .before .before .pre .1)
+
+-- src/lib.rt:169:1
+returns : tie.Need-returns Inv-loop μ-loop
+returns c =
+    let s = c .before .before .before .before .before .before .before .before .before .before .before in
+    let a = s .args in
+    let p = s .pre .0 in
+    let l = c .before .before .before .before .before .before .loop in
+    let first = c .before .before .before .before .before .before .before .first-start in
+    let outside : a .latest .0 < l .start = omega (arith, c .before .before .before .before .if1 .left) in
+    (all-counted (graph (a .ends)) (carries (kept (a .events .now) (a .free .now)) (a .bandwidth .0) (a .duration .0)) (a .source) (a .destination) (a .low .0) (a .latest .0) (first .result) (first .ensures) (l .list) (l .count) (l .start) (l .inv) outside, c .before .before .clear-from .ensures ∙ all-written (graph (a .ends)) (carries (kept (a .events .now) (a .free .now)) (a .bandwidth .0) (a .duration .0)) (a .source) (a .destination) (a .low .0) (a .latest .0) (first .result) (first .ensures) (l .list) (l .count) (l .start) (l .inv) outside)
+
+pub list-ranges-spec : {M : Type 1} → statement M
+list-ranges-spec =
+    tie.close
+    (tie.spec
+    Inv-loop
+    μ-loop
+    first-start-requires
+    loop-holds
+    run-end-requires
+    cast-place
+    mul-place
+    mul-list
+    slice-write-list
+    sub-list
+    add-list
+    mul-list-2
+    slice-write-list-2
+    add-count
+    next-start-requires
+    loop-less
+    loop-again
+    cast-clear-from
+    mul-clear-from
+    clear-from-requires
+    same-length
+    returns)
