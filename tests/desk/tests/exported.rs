@@ -98,7 +98,7 @@ impl Listings {
 }
 
 /// A listing whose window may be too long to try every minute: it is refused as the independent desk refuses, or right where
-/// it is sampled. Answers 1 for a listing, 0 for a refusal.
+/// it is sampled, and begins with the start that an offer gets. Answers 1 for a listing, 0 for a refusal.
 fn right_listing(random: &mut Random, desk: &Desk, held: &mut Tables, request: &Request, what: &str) -> u32 {
     let call = Call::List(LIST_FIGURES, *request);
     let answer = exported::answer(&desk.links, held, &call);
@@ -107,6 +107,8 @@ fn right_listing(random: &mut Random, desk: &Desk, held: &mut Tables, request: &
         (Err(refusal), answer) => assert_eq!(answer, Answer::Refused(refusal), "{what}: {call:?}"),
         (Ok(()), Answer::Listed(ranges)) => {
             assert_eq!(listings::fault(random, desk, request, &ranges), None, "{what}: {call:?}");
+            let offered = exported::offer(&desk.links, held, request).map(|start| start.minute);
+            assert_eq!(ranges.first().map(|range| range.first).ok_or(8), offered, "{what}: {call:?} and the offer");
             return 1;
         }
         (Ok(()), answer) => panic!("{what}: {call:?} is answered {answer:?}"),
