@@ -1,7 +1,7 @@
 //! Nanoseconds for each of the seven calls on the fullest desk (64 links, 64 bookings of 31 links, 129 events), by the
 //! proved desk through its exported calls and by the unverified one, in one run. Both check that the tables are sound by
 //! making them anew; both work on a fresh copy of the tables each time, which is counted. A listing has a fullest desk of
-//! its own, on which it tries the most spans, and a typical one.
+//! its own, on which it takes longest, and a typical one.
 
 use std::hint::black_box;
 
@@ -73,34 +73,35 @@ fn time_list(what: &str, desk: &Desk, request: &Request) {
     );
 }
 
-/// The listing that tries the most spans, over the most rows, each with the longest search: a line of 32 nodes with 64
-/// links, 64 bookings of all 31 hops, and 129 events. The request lasts so long that each event but the last is tried twice,
-/// in a span that ends with it, with all rows before it, and in one that begins with it, with all rows behind it. The
-/// former have a path of 31 links; the latter meet the last booking, which takes the only first link. Each spare link is
-/// taken by another booking, so that a search over the same links as the one before is rare.
-fn longest_listing() -> (Desk, Request) {
-    let nodes = PATH_LINKS as u32;
-    let (first, spares) = (LINKS as u32 - 1, LINKS as u32 - nodes);
-    let hop = |from: u32, capacity: u32| Link { from, to: from + 1, capacity };
-    // The spare links, the links of the line from its end, and its first link.
-    let spare = |link: u32| hop(1 + link % (nodes - 1), 1_000);
-    let lines = (1..nodes).rev().map(|from| hop(from, MAX_CAPACITY));
-    let links: Vec<Link> = (0..spares).map(spare).chain(lines).chain([hop(0, MAX_CAPACITY / 10)]).collect();
-    let line: Vec<u32> = (spares..=first).rev().collect();
+/// The listing that costs most: a line of 32 nodes, 63 bookings of all its 31 hops and one of the first, and 129 events. The
+/// request lasts so long that each event but the last is tried twice, in a span that ends with it, with all rows before it,
+/// and in one that begins with it, with all rows behind it. The former have a path of 31 links; the latter meet the last
+/// booking, which takes the first link. The 33 spare links lead back from the last node, and the line is listed behind them
+/// from its end: of the nets that were tried the slowest to search. The plain desk searches only where other links last than
+/// before; with `in_turn` they do, as each spare link is taken by a booking of its own, in place of one of the line.
+fn longest_listing(in_turn: bool) -> (Desk, Request) {
+    let last = PATH_LINKS as u32;
+    let (spares, others) = (LINKS as u32 - last, BOOKINGS as u32 - 1);
+    let (bandwidth, duration) = (1_000, 1_000);
+    let spare = |link: u32| Link { from: last, to: link % last, capacity: bandwidth };
+    let hop = |from: u32| Link { from, to: from + 1, capacity: MAX_CAPACITY };
+    let links: Vec<Link> = (0..spares).map(spare).chain((0..last).rev().map(hop)).collect();
+    let line: Vec<u32> = (spares..LINKS as u32).rev().collect();
     let mut desk = Desk::set_up(&links).expect("valid links");
-    let (bandwidth, duration, others) = (1_000, 1_000, BOOKINGS as u32 - 1);
     for number in 1..=others {
-        let mut path = line.clone();
-        if number <= spares {
-            path[links[number as usize - 1].from as usize] = number - 1;
-        }
+        let path = if in_turn && number <= spares { vec![number - 1] } else { line.clone() };
         desk.bookings.push(Booking { number, start: duration + number, duration: others, bandwidth, path });
     }
-    let last = duration + 2 * others + 1;
-    let whole = links[first as usize].capacity;
-    desk.bookings.push(Booking { number: others + 1, start: last, duration: 1, bandwidth: whole, path: line });
+    let first = Booking {
+        number: others + 1,
+        start: duration + 2 * others + 1,
+        duration: 1,
+        bandwidth: MAX_CAPACITY,
+        path: line[..1].to_vec(),
+    };
+    desk.bookings.push(first);
     assert_eq!(desk.events().len(), EVENTS);
-    (desk, Request { from: 0, to: nodes, bandwidth, duration, earliest: 0, latest: MAX_MINUTE })
+    (desk, Request { from: 0, to: last, bandwidth, duration, earliest: 0, latest: MAX_MINUTE })
 }
 
 /// A day on a ring of eight nodes with links both ways: 24 bookings of one to four hours, and two hours asked for.
@@ -164,8 +165,10 @@ fn main() {
         |t| fast::move_clock(links, &mut lent(t), 500).is_ok(),
     );
     time("show", &desk, |t| exported::show(links, t, 0, 500).is_ok(), |t| fast::show(links, &lent(t), 0, 500).is_ok());
-    let (desk, request) = longest_listing();
-    time_list("the most spans", &desk, &request);
+    for (what, in_turn) in [("the longest", false), ("the longest with links in turn", true)] {
+        let (desk, request) = longest_listing(in_turn);
+        time_list(what, &desk, &request);
+    }
     let (desk, request) = typical_listing();
     time_list("a typical day", &desk, &request);
 }
