@@ -17,7 +17,7 @@ use Rattle.units.specs.declared.LinkTable.{LinkTable}
 use Rattle.desk_core.specs.Plain.{no-link, link}
 use Rattle.desk_core.specs.Calls.{Call, values}
 use Rattle.desk_core.specs.Tables.{Tables, outcome, sized}
-use Rattle.desk_core.specs.Lent.{granted, shown, granted-answer, shown-answer, refusal-answer, head-after, events-after, free-after, book-after}
+use Rattle.desk_core.specs.Lent.{granted, listed, list-left, shown, granted-answer, listed-answer, list-after, shown-answer, refusal-answer, head-after, events-after, free-after, book-after}
 use Rattle.units.specs.LinkTables.{link-at, links-of, column, columns, table-of, empty-table, with-link, at-most-64}
 use Rattle.desk_core.proofs.LinkColumns.{links-count, link-column}
 use Rattle.desk_core.proofs.Exits.{unsized}
@@ -141,6 +141,14 @@ module _ (xs : List Link) (t : Tables) (c : Call) where
   pub granted-answer-same : granted-answer (links-of (table-of xs)) t c ≡ granted-answer xs t c
   unfolding granted-answer
   granted-answer-same = ap (λ o. granted (o .answer)) outcome-same
+
+  pub listed-answer-same : listed-answer (links-of (table-of xs)) t c ≡ listed-answer xs t c
+  unfolding listed-answer
+  listed-answer-same = ap (λ o. listed (o .answer)) outcome-same
+
+  pub list-after-same : (old : List ℕ) → list-after (links-of (table-of xs)) t c old ≡ list-after xs t c old
+  unfolding list-after
+  list-after-same old = ap (λ o. list-left (o .answer) old) outcome-same
 
   pub shown-answer-same : shown-answer (links-of (table-of xs)) t c ≡ shown-answer xs t c
   unfolding shown-answer
