@@ -1,11 +1,10 @@
 -- list_ranges meets its contract. The ranges before `start` are found, counted and written.
-use mathlib.Core.Path.{_≡_, refl, sym, _∙_, ap, subst}
-use Prim.Native.Nat.{ℕ, suc, _-_, _+_, _*_, _≤_, _<_}
+use mathlib.Core.Path.{sym, _∙_, ap}
+use Prim.Native.Nat.{ℕ, suc, _-_, _≤_, _<_}
 use native.Mathlib.Omega.{arith}
 use mathlib.Core.List.{List}
 use lib.ListN.{length, length-set, length-append}
-use borrow.Author.Needs.{needs}
-use Rattle.units.specs.Limits.{most-ranges, list-size}
+use Rattle.units.specs.Limits.{most-ranges}
 use Rattle.free_table.specs.Figures.{kept}
 use Rattle.path_search.specs.Answer.{graph}
 use Rattle.choice.specs.Choice.{possible}
