@@ -11,11 +11,9 @@ use lib.ListN.{length, getD, length-append, List·getD-eq-default}
 use Rattle.units.specs.Limits.{most-events}
 use Rattle.units.specs.Lists.{padded}
 use Rattle.units.proofs.Tests.{Side, below, above, side}
-use Rattle.units.proofs.Padded.{padded-get}
 use Rattle.timeline.specs.Events.{events}
-use Rattle.timeline.proofs.Steady.{NoneBetween, ChangesAt}
+use Rattle.timeline.proofs.Steady.{NoneBetween}
 use Rattle.free_table.specs.Figures.{kept}
-use Rattle.free_table.proofs.SpanCheck.{kept-changes}
 use Rattle.path_search.specs.declared.LinkEnds.{LinkEnds}
 use Rattle.path_search.specs.declared.Path.{Path}
 use Rattle.path_search.specs.Paths.{Graph, Route, along, none}
@@ -25,7 +23,7 @@ use Rattle.choice.specs.declared.Chosen.{Chosen}
 use Rattle.choice.specs.Choice.{granted, route-at, possible, choose}
 use Rattle.choice.specs.Answer.{carries, Askable, start-with, refusal, chosen}
 use Rattle.choice.proofs.Starts.{Tried, choose-none, choose-low, choose-event, choose-none-left, choose-too-late, along-possible, none-impossible}
-use Rattle.choice.proofs.Lent.{carries-back}
+use Rattle.choice.proofs.Lent.{kept-back, event-at}
 
 -- ---- a route by its count of links
 
@@ -54,18 +52,22 @@ module _ (g : Graph) (usable : ℕ → ℕ → Bool) (from to m : ℕ) (r : Path
 
 -- ---- the exits
 
--- each minute of the window may be asked for alone
-pub askable-at : {ends : LinkEnds} {es t : List ℕ} {duration low latest : ℕ} → Askable ends es t duration low latest → (m : ℕ) → low ≤ m → m ≤ latest → Askable ends es t duration m m
-askable-at a m early late = record {
+-- a part of the window may be asked for
+pub askable-part : {ends : LinkEnds} {es t : List ℕ} {duration low latest : ℕ} → Askable ends es t duration low latest → (from until : ℕ) → low ≤ from → until ≤ latest → Askable ends es t duration from until
+askable-part a from until early late = record {
   in-range = a .in-range;
   sized = a .sized;
   clock = a .clock;
   times = a .times;
   are-events = a .are-events;
-  not-past = omega arith;
+  not-past = omega (arith, a .not-past);
   lasts = a .lasts;
-  in-time = omega arith;
+  in-time = omega (arith, a .in-time);
 }
+
+-- each minute alone
+pub askable-at : {ends : LinkEnds} {es t : List ℕ} {duration low latest : ℕ} → Askable ends es t duration low latest → (m : ℕ) → low ≤ m → m ≤ latest → Askable ends es t duration m m
+askable-at a m early late = askable-part a m m early late
 
 module _ (g : Graph) (es t : List ℕ) (bandwidth duration from to low latest c : ℕ) (ts : List ℕ) (shown : es ≡ padded most-events (events c ts)) (early : c ≤ low) where
   abbrev carried : ℕ → ℕ → Bool
@@ -78,11 +80,10 @@ module _ (g : Graph) (es t : List ℕ) (bandwidth duration from to low latest c 
   Answered r = r ≡ chosen (choose g carried from to low latest)
 
   back : (k m l : ℕ) → k ≤ m → NoneBetween ts k m → carried m l ≡ true → carried k l ≡ true
-  back k m l = carries-back (kept es t) bandwidth duration ts l (subst (λ x. ChangesAt ts (kept x t l)) (sym shown) (kept-changes c ts t l)) k m
+  back = kept-back c ts es t shown bandwidth duration
 
-  -- a place of the table has its event, and zero behind the last one
   place : (i : ℕ) → getD es i 0 ≡ getD (events c ts) i 0
-  place i = ap (λ x. getD x i 0) shown ∙ padded-get most-events (events c ts) i
+  place = event-at c ts es t shown bandwidth duration
 
   tried-events : (i : ℕ) → Tried test es low latest i → Tried test (events c ts) low latest i
   tried-events i h = record { not-low = h .not-low; not-events = λ j a b d. rw (place j) at (h .not-events j a (rw (place j) b) (rw (place j) d)) }

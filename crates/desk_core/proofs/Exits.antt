@@ -9,8 +9,8 @@ use Rattle.units.specs.declared.Head.{Head}
 use Rattle.choice.specs.declared.ChoiceRecord.{ChoiceRecord}
 use Rattle.desk_core.specs.declared.Listed.{Listed}
 use Rattle.desk_core.specs.Plain.{Plain}
-use Rattle.desk_core.specs.Calls.{Ask, book, offer, list, cancel, move-clock, show, Call, set-up, ask, Answer, done, refuse, values, Check, check, checked, first-refusal, own-checks, result, answer}
-use Rattle.desk_core.specs.Tables.{Tables, Outcome, sized, links-ok, sound, list-fits, held, answer-on, left-by, outcome}
+use Rattle.desk_core.specs.Calls.{Ask, book, offer, list, cancel, move-clock, show, Call, set-up, ask, Answer, done, refuse, values, Check, check, checked, first-refusal, own-checks, result, answer, list-fits}
+use Rattle.desk_core.specs.Tables.{Tables, Outcome, sized, links-ok, sound, held, answer-on, left-by, outcome}
 use Rattle.desk_core.specs.Lent.{lent, granted, listed, list-left, shown, granted-answer, listed-answer, list-after, shown-answer, refusal-answer, head-after, events-after, free-after, book-after}
 use Rattle.desk_core.proofs.Checks.{Passed, passed-answer, stopped-answer}
 

@@ -3,7 +3,7 @@ use mathlib.Core.Path.{_≡_, refl, sym, _∙_, ap}
 use mathlib.Core.Logic.{_↔_, _⊎_, inl, inr, ⊎-elim}
 use mathlib.Core.List.{List, [], _∷_, map, List·Memᴰ}
 use mathlib.Core.Bool.{Bool, true, false≢true}
-use Prim.Native.Nat.{ℕ, _≤_}
+use Prim.Native.Nat.{ℕ, suc, _≤_}
 use native.Mathlib.Nat.{le-trans}
 use native.Mathlib.Omega.{arith}
 use Rattle.units.specs.declared.Link.{Link}
@@ -18,14 +18,14 @@ use Rattle.path_search.specs.Paths.{reaches, lowest, fewest, Route, route}
 use Rattle.path_search.proofs.Routes.{RouteView, found, no-chain, route-view}
 use Rattle.choice.specs.Choice.{Grant, Choice, granted, no-start, is-along, possible, choose}
 use Rattle.listing.specs.Ranges.{Range, rangesFrom, ranges}
-use Rattle.listing.proofs.Theorems.{listed-once, listed-no-other, ranges-apart, AtStart, ranges-begin, ranges-fit, empty-iff, first-is-start}
+use Rattle.listing.proofs.Theorems.{Possible, listed-once, listed-no-other, ranges-apart, ranges-longest, AtStart, ranges-begin, ranges-fit, empty-iff, first-is-start}
 use Rattle.desk_core.specs.Plain.{Plain, graph, carries, low}
 use Rattle.desk_core.specs.Calls.{Ask, book, list, offer, set-up, ask, Answer, done, starts, lists, shows, refused, refuse, checked, chosen, best, every, answer}
 use Rattle.desk_core.specs.Tables.{Tables, sized, outcome, held, events-of}
 use Rattle.desk_core.specs.Sound.{Obeys}
 use Rattle.desk_core.specs.Demands.{Passes, PathAt, all-checks, answers}
 use Rattle.desk_core.specs.Examples.{start-at, request, only}
-use Rattle.desk_core.specs.Listing.{RightListing, EveryStart}
+use Rattle.desk_core.specs.Listing.{PossibleAt, RightListing, EveryStart}
 use Rattle.desk_core.proofs.Uses.{all-times}
 use Rattle.desk_core.proofs.Checks.{starts≢refuse, Passed, passed-answer, passed-done}
 use Rattle.desk_core.proofs.Tests.{links-tell, nodes-below, RequestRight, request-right}
@@ -49,6 +49,10 @@ module _ (links : List Link) (p : Plain) (r : Request) (o : Obeys links p) (q : 
       by x (found path i) = ((λ e. (path, way-path links p r (q .bandwidth-right .0) m path (i .chain))), λ w. refl)
       by x (no-chain h) = ((λ e. absurd (false≢true e)), λ w. absurd (h (w .0) (path-way links p r (q .bandwidth-right .0) m (w .0) (w .1))))
 
+  -- a possible minute of the window, as the search finds it
+  abbrev Found : ℕ → Type 0
+  Found = Possible (graph links) (carries links p r) (r .from) (r .to) (low p r) (r .latest .0)
+
   -- what a link carries from m on it carries from an earlier minute on, if no time lies between
   back : (k m l : ℕ) → k ≤ m → NoneBetween (all-times p) k m → carries links p r m l ≡ true → carries links p r k l ≡ true
   back k m l h n e = carries-tells links p r (q .bandwidth-right .0) k l .1 (carries-back links p r k m l h n (carries-tells links p r (q .bandwidth-right .0) m l .0 e))
@@ -59,6 +63,8 @@ module _ (links : List Link) (p : Plain) (r : Request) (o : Obeys links p) (q : 
     once = λ m h. listed-once (graph links) (carries links p r) (r .from) (r .to) (low p r) (r .latest .0) m (h .0 .0) (h .0 .1) (possible-tells m .1 (h .1));
     no-other = λ m h. listed-no-other (graph links) (carries links p r) (r .from) (r .to) (low p r) (r .latest .0) m (λ w. h ((w .0, w .1), possible-tells m .0 (w .2)));
     apart = ranges-apart (graph links) (carries links p r) (r .from) (r .to) (low p r) (r .latest .0);
+    longest = all-map (λ x. ((m : ℕ) → x .first ≡ suc m → ¬ Found m) × ¬ Found (suc (x .last))) (λ x. ((m : ℕ) → x .first ≡ suc m → ¬ PossibleAt links p r m) × ¬ PossibleAt links p r (suc (x .last))) (λ x h. ((λ m e w. h .0 m e (found-at m w)), λ w. h .1 (found-at (suc (x .last)) w)))
+        (every links p r) (ranges-longest (graph links) (carries links p r) (r .from) (r .to) (low p r) (r .latest .0));
     begins = all-map (λ x. AtStart (graph links) (carries links p r) (r .from) (r .to) (low p r) (r .latest .0) (p .clock) (all-times p) back early (x .first)) (λ x. (x .first ≡ low p r) ⊎ List·Memᴰ (x .first) (events-of p)) (λ x. ⊎-elim inl (λ i. inr (i .0)))
         (every links p r) (ranges-begin (graph links) (carries links p r) (r .from) (r .to) (low p r) (r .latest .0) (p .clock) (all-times p) back early);
     fits = le-trans (ranges-fit (graph links) (carries links p r) (r .from) (r .to) (low p r) (r .latest .0) (p .clock) (all-times p) back early) (few-events links p o);
@@ -66,6 +72,9 @@ module _ (links : List Link) (p : Plain) (r : Request) (o : Obeys links p) (q : 
     where
       early : p .clock ≤ low p r
       early = omega arith
+
+      found-at : (m : ℕ) → PossibleAt links p r m → Found m
+      found-at m w = (w .0 .0, w .0 .1, possible-tells m .1 (w .1))
 
 -- ---- the listing and the offer
 

@@ -12,8 +12,8 @@ use Rattle.units.specs.Limits.{most-links, most-bookings, most-events, place-si
 use Rattle.units.specs.Lists.{within}
 use Rattle.units.proofs.Tests.{_&_, in-range, equals}
 use Rattle.units.specs.declared.LinkTable.{LinkTable}
-use Rattle.desk_core.specs.Calls.{Ask, ask, checked, first-refusal}
-use Rattle.desk_core.specs.Tables.{Tables, sizes-ok, sized, sound, list-fits, lent-checks, outcome}
+use Rattle.desk_core.specs.Calls.{Ask, ask, checked, first-refusal, list-fits}
+use Rattle.desk_core.specs.Tables.{Tables, sizes-ok, sized, sound, lent-checks, outcome}
 use Rattle.units.specs.LinkTables.{links-of}
 use Rattle.desk_core.specs.Lent.{lent}
 use Rattle.desk_core.specs.Updating.{Fine}

@@ -2,7 +2,7 @@
 use mathlib.Core.Path.{_≡_}
 use mathlib.Core.Logic.{_⊎_, _↔_}
 use mathlib.Core.List.{List, [], _∷_, List·Memᴰ}
-use Prim.Native.Nat.{ℕ, _≤_}
+use Prim.Native.Nat.{ℕ, suc, _≤_}
 use lib.ListN.{length}
 use Rattle.units.specs.declared.Link.{Link}
 use Rattle.units.specs.declared.Request.{Request}
@@ -27,6 +27,8 @@ module _ (links : List Link) (p : Plain) (r : Request) where
     pub no-other : (m : ℕ) → ¬ PossibleAt m → ranges-with m rs ≡ 0
     -- they rise, and no two touch
     pub apart : Apart rs
+    -- each is as long as it can be: neither the minute before its first nor the one after its last is possible
+    pub longest : All (λ x. ((m : ℕ) → x .first ≡ suc m → ¬ PossibleAt m) × ¬ PossibleAt (suc (x .last))) rs
     -- each begins at low or at an event
     pub begins : All (λ x. (x .first ≡ low p r) ⊎ List·Memᴰ (x .first) (events-of p)) rs
     -- so the places are enough

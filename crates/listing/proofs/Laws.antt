@@ -1,7 +1,6 @@
 -- What `rangesFrom` gives, said of every minute of the window; one list only is that. So a loop that finds one range after the
 -- other has found them.
-use mathlib.Core.Path.{_≡_, refl, sym, _∙_, ap, ap₂, subst}
-use mathlib.Core.Logic.{_⊎_, inl, inr, ⊎-elim}
+use mathlib.Core.Path.{_≡_, refl, sym, ap, ap₂, subst}
 use mathlib.Core.List.{List, [], _∷_}
 use mathlib.Core.Bool.{Bool, true, false}
 use Prim.Native.Nat.{ℕ, zero, suc, _+_, _-_, _≤_, _<_}
@@ -10,8 +9,8 @@ use native.Mathlib.Decide.{ℕ-discrete, decLt}
 use native.Mathlib.Omega.{arith}
 use lib.Dec.{eqb}
 use borrow.Author.Tests.{eqb-true}
-use Rattle.units.proofs.Tests.{equals, Order, order}
-use Rattle.units.proofs.Search.{passes?, clash}
+use Rattle.units.proofs.Tests.{equals}
+use Rattle.units.proofs.Search.{clash}
 use Rattle.path_search.specs.Paths.{Graph}
 use Rattle.path_search.proofs.Agree.{Agree, route-agree}
 use Rattle.choice.specs.Choice.{is-along, possible}

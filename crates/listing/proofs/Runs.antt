@@ -1,6 +1,6 @@
 -- Where the possible minutes from a start on end. A span that moves on stays possible until its end meets an event, so
 -- `run_end` tries only there.
-use mathlib.Core.Path.{_≡_, refl, sym, _∙_, ap, subst}
+use mathlib.Core.Path.{_≡_, refl, _∙_, ap}
 use mathlib.Core.List.{List, List·Memᴰ·tail}
 use mathlib.Core.Bool.{Bool, true, false}
 use Prim.Native.Nat.{ℕ, suc, _+_, _-_, _≤_, _<_}
@@ -10,19 +10,17 @@ use native.Mathlib.Omega.{arith}
 use lib.ListN.{length, getD, length-append}
 use Rattle.units.specs.Limits.{most-events}
 use Rattle.units.specs.Lists.{padded}
-use Rattle.units.proofs.Padded.{padded-get}
 use Rattle.units.proofs.Tests.{member-tells}
 use Rattle.timeline.specs.Events.{later, events}
 use Rattle.timeline.proofs.Events.{later-rises, member-later}
-use Rattle.timeline.proofs.Steady.{NoneBetween, ChangesAt}
+use Rattle.timeline.proofs.Steady.{NoneBetween}
 use Rattle.timeline.proofs.Places.{rising-order}
 use Rattle.free_table.specs.Figures.{kept}
-use Rattle.free_table.proofs.SpanCheck.{kept-changes}
 use Rattle.path_search.specs.Paths.{Graph}
 use Rattle.choice.specs.Choice.{possible}
 use Rattle.choice.specs.Answer.{carries}
 use Rattle.choice.proofs.Starts.{event-place, possible-more}
-use Rattle.choice.proofs.Lent.{carries-back, carries-on}
+use Rattle.choice.proofs.Lent.{kept-on, event-at}
 use Rattle.listing.specs.Right.{RunEnd}
 
 -- the minutes from start to `last` pass, whose span ends before `end`, and the first i events lie before that end
@@ -41,16 +39,6 @@ module _ (g : Graph) (es t : List ℕ) (bandwidth duration from to c : ℕ) (ts 
   abbrev test : ℕ → Bool
   test = possible g carried from to
 
-  changes : (l : ℕ) → ChangesAt ts (kept es t l)
-  changes l = subst (λ x. ChangesAt ts (kept x t l)) (sym shown) (kept-changes c ts t l)
-
-  pub back : (k m l : ℕ) → k ≤ m → NoneBetween ts k m → carried m l ≡ true → carried k l ≡ true
-  back k m l = carries-back (kept es t) bandwidth duration ts l (changes l) k m
-
-  -- a place of the table has its event, and zero behind the last one
-  place-is : (i : ℕ) → getD es i 0 ≡ getD (events c ts) i 0
-  place-is i = ap (λ x. getD x i 0) shown ∙ padded-get most-events (events c ts) i
-
   -- from the minute `last` on, whose span ends before `end`, up to one whose span ends before the event at place i
   module _ (last i bound : ℕ) (early : c ≤ last) (passed : (j : ℕ) → j < i → getD es j 0 < last + duration)
       (ahead : i < length (events c ts) → bound < getD es i 0) where
@@ -60,17 +48,17 @@ module _ (g : Graph) (es t : List ℕ) (bandwidth duration from to c : ℕ) (ts 
         met : (j : ℕ) × (j < length (events c ts)) × (getD (events c ts) j 0 ≡ x) → x ≤ last + duration - 1
         met f =
             elim (decLt (f .0) i) [
-              | yes h ↦ let p = passed (f .0) h in let q = place-is (f .0) in let r = f .2 in omega arith
+              | yes h ↦ let p = passed (f .0) h in let q = event-at c ts es t shown bandwidth duration (f .0) in let r = f .2 in omega arith
               | no h ↦ elim (ℕ-discrete (f .0) i) [
-                | yes q ↦ let a = ahead (omega (arith, f .1)) in let p = place-is i in let r : getD (events c ts) i 0 ≡ x = rw q at (f .2) in absurd (omega arith)
-                | no q ↦ let a = ahead (omega (arith, f .1)) in let p = place-is i in let o = rising-order c (later c ts) (later-rises c ts) i (f .0) (omega arith) (f .1) in let r = f .2 in absurd (omega arith)
+                | yes q ↦ let a = ahead (omega (arith, f .1)) in let p = event-at c ts es t shown bandwidth duration i in let r : getD (events c ts) i 0 ≡ x = rw q at (f .2) in absurd (omega arith)
+                | no q ↦ let a = ahead (omega (arith, f .1)) in let p = event-at c ts es t shown bandwidth duration i in let o = rising-order c (later c ts) (later-rises c ts) i (f .0) (omega arith) (f .1) in let r = f .2 in absurd (omega arith)
               ]
             ]
 
     pub goes-on : (m : ℕ) → last ≤ m → m + duration - 1 ≤ bound → test last ≡ true → test m ≡ true
     goes-on m h b p =
         possible-more g carried from to m last
-        (λ l. carries-on (kept es t) bandwidth duration ts l (changes l) last m h some (λ x i le. none-met x i (omega arith))) p
+        (λ l. kept-on c ts es t shown bandwidth duration last m l h some (λ x i le. none-met x i (omega arith))) p
 
   module _ (start latest : ℕ) where
     abbrev Run : ℕ → ℕ → Type 0

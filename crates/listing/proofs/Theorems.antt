@@ -9,11 +9,11 @@ use native.Mathlib.Nat.{le-refl}
 use native.Mathlib.Decide.{ℕ-discrete, decLt}
 use native.Mathlib.Omega.{arith}
 use lib.ListN.{length}
-use Rattle.units.specs.Lists.{within, Within, All, cons-if, select}
+use Rattle.units.specs.Lists.{within, All, cons-if, select}
 use Rattle.units.specs.Search.{Found, at, nothing, firstFrom}
 use Rattle.units.proofs.Tests.{in-range, member-tells, Rising}
-use Rattle.units.proofs.Parts.{all-map, all-at}
-use Rattle.units.proofs.Search.{clash, not-true, IsFirst, firstFrom-found, firstFrom-none}
+use Rattle.units.proofs.Parts.{all-map}
+use Rattle.units.proofs.Search.{clash, IsFirst, firstFrom-found, firstFrom-none}
 use Rattle.timeline.specs.Events.{later, events}
 use Rattle.timeline.proofs.Events.{later-rises, member-later, rising-member}
 use Rattle.timeline.proofs.Steady.{NoneBetween}
@@ -21,7 +21,7 @@ use Rattle.timeline.proofs.Spans.{last-start, last-start-le, last-start-between
 use Rattle.path_search.specs.Paths.{Graph, Route, along, none}
 use Rattle.choice.specs.Choice.{Grant, granted, no-start, grant-at, route-at, possible, choose}
 use Rattle.choice.proofs.Starts.{choose-first, choose-none, none-impossible, possible-back}
-use Rattle.listing.specs.Ranges.{Range, rangesFrom, ranges}
+use Rattle.listing.specs.Ranges.{Range, ranges}
 use Rattle.listing.specs.Right.{ranges-with, Apart}
 use Rattle.listing.proofs.Laws.{IsRange, AreRanges, are-ranges, are-only}
 

@@ -11,15 +11,14 @@ use Rattle.units.specs.Search.{Found, at, nothing, firstFrom}
 use Rattle.units.proofs.Search.{IsFirst, firstFrom-found}
 use Rattle.path_search.specs.Paths.{Graph, Route, along, none, reaches, lowest, fewest, route-of, route}
 use Rattle.path_search.proofs.Chains.{lowest-length}
-use Rattle.choice.specs.Choice.{Grant, Choice, granted, no-start, route-at, grant-at, choice-at, possible, choose}
-use Rattle.record.specs.declared.Order.{Order}
+use Rattle.choice.specs.Choice.{route-at, grant-at, choice-at, possible, choose}
 use Rattle.record.specs.declared.Order.the-variants as orders
 use Rattle.record.specs.declared.OrderRead.{OrderRead}
 use Rattle.record.specs.declared.OrderRead.the-variants as reads
 use Rattle.record.specs.Records.{order-read}
 use Rattle.record.specs.Values.{request-of}
 use Rattle.desk_core.specs.Plain.{Plain, low, graph, carries}
-use Rattle.desk_core.specs.Calls.{Ask, book, offer, list, cancel, move-clock, show, ask, Answer, refuse, values, Check, check, checked, own-checks, chosen, best, result, answer}
+use Rattle.desk_core.specs.Calls.{Ask, book, offer, list, cancel, move-clock, show, ask, Answer, values, Check, check, checked, own-checks, chosen, best, result, answer}
 use Rattle.desk_core.specs.Tables.{Tables, held, table-checks, answer-on, outcome}
 use Rattle.orders.specs.Ordered.{by-reading, answered, ordered}
 

@@ -1,18 +1,19 @@
 -- list_ranges meets its contract. The ranges before `start` are found, counted and written.
-use mathlib.Core.Path.{_≡_, refl, sym, _∙_, ap, subst}
-use Prim.Native.Nat.{ℕ, suc, _-_, _+_, _*_, _≤_, _<_}
+use mathlib.Core.Path.{sym, _∙_, ap}
+use Prim.Native.Nat.{ℕ, suc, _-_, _≤_, _<_}
+use native.Mathlib.Nat.{le-refl}
 use native.Mathlib.Omega.{arith}
 use mathlib.Core.List.{List}
 use lib.ListN.{length, length-set, length-append}
-use borrow.Author.Needs.{needs}
-use Rattle.units.specs.Limits.{most-ranges, list-size}
+use Rattle.units.specs.Limits.{most-ranges}
 use Rattle.free_table.specs.Figures.{kept}
 use Rattle.path_search.specs.Answer.{graph}
 use Rattle.choice.specs.Choice.{possible}
 use Rattle.choice.specs.Answer.{carries, Askable}
 use Rattle.path_search.specs.declared.LinkEnds.{LinkEnds}
 use Rattle.timeline.specs.Events.{events}
-use Rattle.listing.proofs.Runs.{back}
+use Rattle.choice.proofs.Lent.{kept-back}
+use Rattle.choice.proofs.Exits.{askable-part}
 use Rattle.listing.proofs.Found.{Listed, next-start, listed-first, start-passes, start-after, listed-few, listed-next, all-counted, all-written}
 use Rattle.listing.proofs.list_ranges.Statement.{statement}
 use Rattle.listing.proofs.list_ranges.Tie as tie
@@ -31,19 +32,7 @@ abbrev μ-loop : tie.MeasureT-loop
 μ-loop ends events free source destination bandwidth duration latest list₀ count₀ start₀ list count start = suc (latest .0) - start
 
 -- src/lib.rt:186:9
--- the minutes of the window from one on may be asked for
-askable-from : {ends : LinkEnds} {es t : List ℕ} {duration low latest : ℕ} → Askable ends es t duration low latest → (m : ℕ) → low ≤ m → Askable ends es t duration m latest
-askable-from a m early = record {
-  in-range = a .in-range;
-  sized = a .sized;
-  clock = a .clock;
-  times = a .times;
-  are-events = a .are-events;
-  not-past = omega (arith, a .not-past);
-  lasts = a .lasts;
-  in-time = a .in-time;
-}
-
+-- the list has a place for each event
 events-few : {ends : LinkEnds} {es t : List ℕ} {duration low latest : ℕ} (a : Askable ends es t duration low latest) → length (events (a .clock) (a .times)) ≤ most-ranges
 events-few a = omega (arith, a .sized .events-sized, simp (length-append) at (ap length (a .are-events)))
 
@@ -66,7 +55,7 @@ run-end-requires c κs =
     let l = c .before .before .loop in
     let first = c .before .before .before .first-start in
     let inside : l .start ≤ a .latest .0 = omega (arith, c .if1 .taken) in
-    (askable-from p (l .start) (start-after (graph (a .ends)) (carries (kept (a .events .now) (a .free .now)) (a .bandwidth .0) (a .duration .0)) (a .source) (a .destination) (a .low .0) (a .latest .0) (first .result) (first .ensures) (l .list) (l .count) (l .start) (l .inv) inside), (inside, start-passes (graph (a .ends)) (carries (kept (a .events .now) (a .free .now)) (a .bandwidth .0) (a .duration .0)) (a .source) (a .destination) (a .low .0) (a .latest .0) (first .result) (first .ensures) (l .list) (l .count) (l .start) (l .inv) inside))
+    (askable-part p (l .start) (a .latest .0) (start-after (graph (a .ends)) (carries (kept (a .events .now) (a .free .now)) (a .bandwidth .0) (a .duration .0)) (a .source) (a .destination) (a .low .0) (a .latest .0) (first .result) (first .ensures) (l .list) (l .count) (l .start) (l .inv) inside) (le-refl _), (inside, start-passes (graph (a .ends)) (carries (kept (a .events .now) (a .free .now)) (a .bandwidth .0) (a .duration .0)) (a .source) (a .destination) (a .low .0) (a .latest .0) (first .result) (first .ensures) (l .list) (l .count) (l .start) (l .inv) inside))
 
 -- src/lib.rt:209:21
 -- where a range is found there is a place for it
@@ -78,7 +67,7 @@ room c =
     let l = c .before .before .before .loop in
     let first = c .before .before .before .before .first-start in
     let r = c .run-end in
-    listed-few (graph (a .ends)) (carries (kept (a .events .now) (a .free .now)) (a .bandwidth .0) (a .duration .0)) (a .source) (a .destination) (a .low .0) (a .latest .0) (first .result) (first .ensures) (l .list) (l .count) (l .start) (l .inv) (omega (arith, c .before .if1 .taken)) (r .result) (r .ensures) (p .clock) (p .times) (back (graph (a .ends)) (a .events .now) (a .free .now) (a .bandwidth .0) (a .duration .0) (a .source) (a .destination) (p .clock) (p .times) (p .are-events) (p .lasts .0)) (p .not-past) (events-few p)
+    listed-few (graph (a .ends)) (carries (kept (a .events .now) (a .free .now)) (a .bandwidth .0) (a .duration .0)) (a .source) (a .destination) (a .low .0) (a .latest .0) (first .result) (first .ensures) (l .list) (l .count) (l .start) (l .inv) (omega (arith, c .before .if1 .taken)) (r .result) (r .ensures) (p .clock) (p .times) (kept-back (p .clock) (p .times) (a .events .now) (a .free .now) (p .are-events) (a .bandwidth .0) (a .duration .0)) (p .not-past) (events-few p)
 
 cast-place : tie.Need-cast-place Inv-loop μ-loop
 cast-place c = omega (arith, room c)
@@ -125,7 +114,7 @@ next-start-requires c κs =
     let first = c .before .before .before .before .first-start in
     let r = c .run-end in
     let inside : l .start ≤ a .latest .0 = omega (arith, c .before .if1 .taken) in
-    (askable-from p (r .result) (let early = start-after (graph (a .ends)) (carries (kept (a .events .now) (a .free .now)) (a .bandwidth .0) (a .duration .0)) (a .source) (a .destination) (a .low .0) (a .latest .0) (first .result) (first .ensures) (l .list) (l .count) (l .start) (l .inv) inside in omega (arith, r .ensures .after)), λ within. r .ensures .stops (omega arith))
+    (askable-part p (r .result) (a .latest .0) (let early = start-after (graph (a .ends)) (carries (kept (a .events .now) (a .free .now)) (a .bandwidth .0) (a .duration .0)) (a .source) (a .destination) (a .low .0) (a .latest .0) (first .result) (first .ensures) (l .list) (l .count) (l .start) (l .inv) inside in omega (arith, r .ensures .after)) (le-refl _), λ within. r .ensures .stops (omega arith))
 
 -- src/lib.rt:197:5
 loop-less : tie.Need-loop-less Inv-loop μ-loop

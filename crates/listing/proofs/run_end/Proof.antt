@@ -1,13 +1,11 @@
 -- run_end meets its contract. The minutes up to one whose span ends before `end` are possible, and the events at the places
 -- below `place` lie before it.
-use mathlib.Core.Path.{_≡_, refl, sym, _∙_, ap, subst}
+use mathlib.Core.Path.{_≡_, refl, sym, _∙_, subst}
 use mathlib.Core.List.{List}
 use mathlib.Core.Bool.{Bool}
 use mathlib.Core.Logic.{⊎-elim}
-use Prim.Native.Nat.{ℕ, _-_, _+_, _≤_, suc}
-use native.Mathlib.Numerals.{add-one}
+use Prim.Native.Nat.{ℕ, _-_, _+_, _≤_}
 use native.Mathlib.Omega.{arith}
-use lib.ListN.{getD}
 use borrow.Author.Tests.{not-true, not-false}
 use Rattle.units.specs.Limits.{most-events}
 use Rattle.free_table.specs.Figures.{kept}
@@ -15,13 +13,9 @@ use Rattle.path_search.specs.Answer.{graph}
 use Rattle.choice.specs.Choice.{possible}
 use Rattle.choice.specs.Answer.{carries}
 use Rattle.choice.proofs.Exits.{askable-at}
-use Rattle.listing.specs.Right.{RunEnd}
 use Rattle.listing.proofs.Runs.{RunTo, run-first, run-skips, run-meets, run-stops, run-late, run-left}
 use Rattle.listing.proofs.run_end.Statement.{statement}
 use Rattle.listing.proofs.run_end.Tie as tie
-use Rattle.listing.proofs.run_end.Reads as reads
-use Rattle.listing.proofs.run_end.Lts as lts
-use Rattle.listing.proofs.possible_at.Reads as possible-at-reads
 
 -- the loop knows start by the end of its span
 abbrev Inv-loop : tie.InvT-loop
