@@ -81,12 +81,7 @@ pub fn offer(links: &[Link], tables: &Tables, request: &Request) -> Result<Start
 
 /// Writes every start there is as ranges into the list, and answers their number. Refuses 1, 13, 3, 4, 5.
 pub fn list(links: &[Link], tables: &Tables, request: &Request, list: &mut [u32]) -> Result<u32, u32> {
-    check_sizes(links, tables)?;
-    if list.len() != LIST_FIGURES {
-        return Err(13);
-    }
-    let events = sound(links, tables).ok_or(3u32)?;
-    check_request(tables.head.clock, request)?;
+    let events = check_listing(links, tables, request, list)?;
     Ok(list_ranges(links, tables, events, request, list))
 }
 
@@ -152,6 +147,17 @@ fn check_sizes(links: &[Link], tables: &Tables) -> Result<(), u32> {
 fn check_tables(links: &[Link], tables: &Tables) -> Result<usize, u32> {
     check_sizes(links, tables)?;
     sound(links, tables).ok_or(3)
+}
+
+/// The checks of a listing; answers the number of events.
+pub fn check_listing(links: &[Link], tables: &Tables, request: &Request, list: &[u32]) -> Result<usize, u32> {
+    check_sizes(links, tables)?;
+    if list.len() != LIST_FIGURES {
+        return Err(13);
+    }
+    let events = sound(links, tables).ok_or(3u32)?;
+    check_request(tables.head.clock, request)?;
+    Ok(events)
 }
 
 /// The number of events, if the tables are sound.

@@ -1,11 +1,12 @@
 //! Nanoseconds for each of the seven calls on the fullest desk (64 links, 64 bookings of 31 links, 129 events), by the
 //! proved desk through its exported calls and by the unverified one, in one run. Both check that the tables are sound by
 //! making them anew; both work on a fresh copy of the tables each time, which is counted. A listing has a fullest desk of
-//! its own, on which it takes longest, and a typical one.
+//! its own, on which it takes longest, and a typical one; it is timed beside plain Rust of the same steps, and beside the
+//! unverified desk's, which has sets of links as bits and searches only where the set is another than before.
 
 use std::hint::black_box;
 
-use desk_bench::fast;
+use desk_bench::{fast, same_steps};
 use desk_tests::plain::{Booking, Desk, Walk};
 use desk_tests::sessions::fullest;
 use desk_tests::tables::{self, Tables};
@@ -14,6 +15,8 @@ use desk_tests::{BOOKINGS, EVENTS, LINKS, LIST_FIGURES, MAX_CAPACITY, MAX_MINUTE
 use timing::{compare, nanoseconds};
 
 const TURNS: u32 = 20;
+
+type Listing = fn(&[Link], &fast::Tables, &Request, &mut [u32]) -> Result<u32, u32>;
 
 /// The same tables, lent to the unverified desk.
 fn lent(t: &mut Tables) -> fast::Tables<'_> {
@@ -60,17 +63,18 @@ fn time_form(desk: &Desk) {
     println!("form of a public call: {form:.0} ns of {whole:.0} ns, ratio to the core {:.4}", whole / (whole - form));
 }
 
-/// Times a listing whose ranges are those of the independent desk.
+/// Times a listing whose ranges are those of the independent desk, beside both unverified ones.
 fn time_list(what: &str, desk: &Desk, request: &Request) {
     let links = &desk.links;
     let ranges = desk.ranges(request, Walk::ToLastEvent).len() as u32;
-    let what = &format!("list, {what}, ranges {ranges}");
-    time(
-        what,
-        desk,
-        |t| exported::list(links, t, request, &mut [0; LIST_FIGURES]) == Ok(ranges),
-        |t| fast::list(links, &lent(t), request, &mut [0; LIST_FIGURES]) == Ok(ranges),
-    );
+    for (how, list) in [("the same steps", same_steps::list as Listing), ("bit sets", fast::list)] {
+        time(
+            &format!("list, {what}, ranges {ranges}, beside {how}"),
+            desk,
+            |t| exported::list(links, t, request, &mut [0; LIST_FIGURES]) == Ok(ranges),
+            |t| list(links, &lent(t), request, &mut [0; LIST_FIGURES]) == Ok(ranges),
+        );
+    }
 }
 
 /// The listing that costs most: a line of 32 nodes, 63 bookings of all its 31 hops and one of the first, and 129 events. The

@@ -1,10 +1,11 @@
 //! The unverified desk against the independent one: random histories and damages, every table figure compared, and
-//! sessions through the program.
+//! sessions through the program. Each listing is made by the proved one's steps as well.
 
 use std::io::Write;
 use std::process::{Command, Stdio};
 
 use desk_bench::fast::{self, Start};
+use desk_bench::same_steps;
 use desk_tests::cases::cases;
 use desk_tests::damages::{damage, forged};
 use desk_tests::exported::listing;
@@ -34,7 +35,10 @@ fn run(links: &[Link], tables: &mut Tables, call: &Call) -> Answer {
         }
         Call::Offer(request) => fast::offer(links, lent, request).map(|start| Answer::Offered(answered(start))),
         Call::List(figures, request) => {
-            listing(*figures, |list| fast::list(links, lent, request, list)).map(Answer::Listed)
+            let listed = listing(*figures, |list| fast::list(links, lent, request, list));
+            let same_steps = listing(*figures, |list| same_steps::list(links, lent, request, list));
+            assert_eq!(same_steps, listed, "by the same steps, {call:?}");
+            listed.map(Answer::Listed)
         }
         Call::Cancel(number) => fast::cancel(links, lent, *number).map(|()| Answer::Cancelled),
         Call::MoveClock(minute) => fast::move_clock(links, lent, *minute).map(|()| Answer::Moved),

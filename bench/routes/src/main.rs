@@ -2,6 +2,7 @@
 //! one run. Both answer the same question; the graphs are made before the clock starts. Prints nanoseconds for each
 //! search, and the ratio.
 
+use plain_search::{queue, walk, Ends};
 use routes_tests::graphs::full_question;
 use routes_tests::{as_path, find_route, InRange, Path, Question, NODES};
 use std::collections::VecDeque;
@@ -45,51 +46,14 @@ fn plain(q: &Question) -> Path {
     as_path(Some(path))
 }
 
-/// The same with no list on the heap: the links into a node are chained through arrays.
+/// The same with no list on the heap.
 fn on_arrays(q: &Question) -> Path {
-    const NONE: u8 = u8::MAX;
-    let mut first_in = [NONE; NODES];
-    let mut next_in = [NONE; routes_tests::LINKS];
-    for (link, next) in next_in.iter_mut().enumerate().take(q.ends.count) {
-        if q.set.has[link] {
-            let to = q.ends.to[link] as usize;
-            *next = first_in[to];
-            first_in[to] = link as u8;
-        }
+    let ends = Ends { from: &q.ends.from[..q.ends.count], to: &q.ends.to[..q.ends.count] };
+    let distance = queue(ends, &q.set.has, q.destination);
+    match walk(ends, &q.set.has, &distance, q.source, q.destination) {
+        Some(path) => Path { count: path.count as u32, links: path.links },
+        None => as_path(None),
     }
-    let mut distance = [NODES as u32; NODES];
-    distance[q.destination as usize] = 0;
-    let mut queue = [0; NODES];
-    queue[0] = q.destination;
-    let (mut taken, mut put) = (0, 1);
-    while taken < put {
-        let node = queue[taken] as usize;
-        taken += 1;
-        let mut link = first_in[node];
-        while link != NONE {
-            let from = q.ends.from[link as usize];
-            if distance[from as usize] == NODES as u32 {
-                distance[from as usize] = distance[node] + 1;
-                queue[put] = from;
-                put += 1;
-            }
-            link = next_in[link as usize];
-        }
-    }
-    let mut path = as_path(None);
-    if distance[q.source as usize] == NODES as u32 {
-        return path;
-    }
-    let mut node = q.source;
-    while node != q.destination {
-        let links = distance[node as usize];
-        let nearer = |&link: &usize| distance[q.ends.to[link] as usize] + 1 == links;
-        let link = q.links_out(node).find(nearer).unwrap();
-        path.links[path.count as usize] = link as u32;
-        path.count += 1;
-        node = q.ends.to[link];
-    }
-    path
 }
 
 /// Nanoseconds for each search.
