@@ -184,7 +184,7 @@ pub(crate) fn table_refusal(
     0
 }
 
-// The same of a listing, which is lent a list too: its size is checked before whether the tables are sound.
+// The same of a listing, which is lent a list too: its size comes behind the tables' and before whether they are sound.
 pub(crate) fn listing_refusal(
     head: Head,
     links: LinkTable,
@@ -195,11 +195,12 @@ pub(crate) fn listing_refusal(
 ) -> u32
     ensures { λ r. ⌜ r ≡ first-refusal (lent-checks (links-of links) (lent head (now (events .entry)) (now (free .entry)) (now (book .entry))) (eqb list list-size)) ⌝ }
 {
-    if !sized(links.count, events.len(), free.len(), book.len()) {
-        return BAD_SIZE;
+    let refusal = table_refusal(head, links, events, free, book);
+    if refusal == BAD_SIZE {
+        return refusal;
     }
     if list != LIST_FIGURES {
         return BAD_LIST;
     }
-    table_refusal(head, links, events, free, book)
+    refusal
 }
