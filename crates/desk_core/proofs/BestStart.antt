@@ -1,5 +1,5 @@
 -- On fine tables the chooser may be asked, and what it answers is the plain book's best start; so are the ranges listed.
-use mathlib.Core.Path.{_≡_, refl, sym, _∙_, ap, ap₂}
+use mathlib.Core.Path.{_≡_, sym, _∙_, ap, ap₂}
 use mathlib.Core.Bool.{false, and-eq-true-iff}
 use borrow.Author.Tests.{not-true, ltb-true}
 use Prim.Native.Nat.{ℕ, _-_, _≤_, _<_, max}
@@ -24,6 +24,7 @@ use Rattle.choice.specs.Choice.{Grant, Choice, granted, no-start, choose}
 use Rattle.choice.specs.Answer.{Askable}
 use Rattle.choice.specs.Answer as answers
 use Rattle.choice.proofs.Figures.{choose-agree, carries-shown}
+use Rattle.choice.proofs.Answers.{started, none-started}
 use Rattle.listing.specs.Ranges.{ranges}
 use Rattle.listing.proofs.Laws.{ranges-agree}
 use Rattle.units.specs.declared.LinkTable.{LinkTable}
@@ -107,20 +108,12 @@ module _ (links : LinkTable) (t : Tables) (f : Fine (links-of links) t) where
       pub path-is : path ≡ search.path-of (grant .path)
 
     pub chosen-start : (a : Chosen) → a ≡ answers.chosen by-tables → (start : Minute) → a .choice ≡ Start start → Started start (a .path)
-    chosen-start a e start s = by by-tables refl e
-      where
-        by : (c : Choice) → by-tables ≡ c → a ≡ answers.chosen c → Started start (a .path)
-        by (granted g) q e =
-            let z : Start (record { 0 = g .start }) ≡ Start start = sym (ap (λ x. x .choice) e) ∙ s in
-            record { grant = g; is-best = sym same-choice ∙ q; start-is = cc; path-is = ap (λ x. x .path) e }
-        by no-start q e = let z : Refused 8 ≡ Start start = sym (ap (λ x. x .choice) e) ∙ s in absurd (let y : _≡_ {A = ℕ} 0 1 = cc in omega arith)
+    chosen-start a e start s =
+        let w = started by-tables a e start s in
+        record { grant = w .grant; is-best = sym same-choice ∙ w .is-granted; start-is = w .start-is; path-is = w .path-is }
 
     pub chosen-none : (a : Chosen) → a ≡ answers.chosen by-tables → (k : ℕ) → a .choice ≡ Refused k → by-book ≡ no-start
-    chosen-none a e k s = by by-tables refl e
-      where
-        by : (c : Choice) → by-tables ≡ c → a ≡ answers.chosen c → by-book ≡ no-start
-        by (granted g) q e = let z : Start (record { 0 = g .start }) ≡ Refused k = sym (ap (λ x. x .choice) e) ∙ s in absurd (let y : _≡_ {A = ℕ} 0 1 = cc in omega arith)
-        by no-start q e = sym same-choice ∙ q
+    chosen-none a e k s = sym same-choice ∙ none-started by-tables a e k s
 
     -- what the plain book answers then
     pub best-starts : (g : Grant) → by-book ≡ granted g → best (links-of links) (held t) r ≡ starts g

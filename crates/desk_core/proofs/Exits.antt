@@ -47,7 +47,8 @@ own-numbered links p (cancel n) = (omega arith, (omega arith, tt))
 own-numbered links p (move-clock m) = (omega arith, (omega arith, tt))
 own-numbered links p (show l m) = (omega arith, tt)
 
-left-refused : (links : List Link) (t : Tables) (c : Call) (k : ℕ) → left-by links t c (refuse k) ≡ t
+-- a refusal leaves the tables as they came
+pub left-refused : (links : List Link) (t : Tables) (c : Call) (k : ℕ) → left-by links t c (refuse k) ≡ t
 left-refused links t set-up k = refl
 left-refused links t (ask (book n r)) k = refl
 left-refused links t (ask (offer r)) k = refl

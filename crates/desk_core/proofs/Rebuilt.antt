@@ -24,7 +24,8 @@ use Rattle.desk_core.specs.Calls.{put-in}
 use Rattle.desk_core.specs.Tables.{events-of, event-table, free-table, booking-of, booking-at, plain-in}
 use Rattle.desk_core.specs.Sound.{BookingRight}
 use Rattle.units.specs.LinkTables.{links-of}
-use Rattle.desk_core.specs.Rebuilding.{PlaceRight, TablesSized, NotOversold, CanRebuild}
+use Rattle.free_table.specs.Looking.{TablesSized}
+use Rattle.desk_core.specs.Rebuilding.{PlaceRight, NotOversold, CanRebuild}
 use Rattle.desk_core.proofs.Obeys.{right-in}
 use Rattle.desk_core.proofs.LinkColumns.{links-count, capacity-column}
 use Rattle.desk_core.proofs.Added.{events-few, oversold-added, CanAdd, Adds, add-asks, added}
@@ -137,7 +138,10 @@ module _ (columns : LinkTable) (clock : ℕ) (book : List ℕ) (n : ℕ) {es₀ 
   pub place-sizes : (i : ℕ) {es t : List ℕ} {fits : Bool} → Rebuilt (links-of columns) (from-place clock book n i) es t fits → TablesSized es t
   place-sizes i r =
       let few : length (from-place clock book n i .bookings) ≤ most-bookings = omega (arith, length-from i, can .few-bookings) in
-      (events-sized (links-of columns) (from-place clock book n i) few-links few r, free-sized (links-of columns) (from-place clock book n i) few-links few r)
+      record {
+        events-sized = events-sized (links-of columns) (from-place clock book n i) few-links few r;
+        free-sized = free-sized (links-of columns) (from-place clock book n i) few-links few r;
+      }
 
   can-add : (i : ℕ) → i < n → CanAdd (links-of columns) (from-place clock book n (suc i)) (booking-in book i)
   can-add i h = record {

@@ -2,7 +2,7 @@
 -- places are tidy and whose other figures are zero is the book table of the bookings that it holds.
 use mathlib.Core.Path.{_≡_, refl, sym, ap, ap₂, _∙_, subst}
 use mathlib.Core.List.{List, [], _∷_, _++_, map, flatten}
-use mathlib.Core.Bool.{Bool, true, false, _&&_, and-eq-true-iff}
+use mathlib.Core.Bool.{Bool, true, _&&_, and-eq-true-iff}
 use Prim.Native.Nat.{ℕ, zero, suc, _+_, _-_, _*_, _≤_, _<_}
 use native.Mathlib.Numerals.{add-one}
 use native.Mathlib.Omega.{arith}
@@ -12,7 +12,7 @@ use lib.Seq.{drop-cons, drop-drop, take-at, drop-at, length-take-le}
 use Rattle.units.specs.declared.Link.{Link}
 use Rattle.units.specs.Limits.{most-hops, most-bookings, place-size}
 use Rattle.units.specs.Lists.{count-from, padded, all, All}
-use Rattle.units.proofs.Tests.{Tells, _&_, at-most, less-than, equals, all-tells, equal-tells, Rising, rising-tells, Side, below, above, side}
+use Rattle.units.proofs.Tests.{Tells, _&_, at-most, less-than, equals, all-tells, equal-tells, Rising, rising-tells, Side, below, above, side, same-test}
 use Rattle.units.proofs.Padded.{padded-append}
 use Rattle.book.specs.declared.Booking.{Booking as Place}
 use Rattle.book.specs.Places.{number-at, booking-in, figures}
@@ -23,12 +23,6 @@ use Rattle.desk_core.specs.Sound.{BookingRight}
 use Rattle.desk_core.specs.Checking.{zeros-from, tidy, book-ok, BookFits}
 use Rattle.desk_core.proofs.Book.{length-place, by-number-fixed}
 use Rattle.desk_core.proofs.Tests.{booking-tells}
-
--- two tests that pass in the same cases
-pub same-test : (a b : Bool) → (a ≡ true → b ≡ true) → (b ≡ true → a ≡ true) → a ≡ b
-same-test true b f g = sym (f refl)
-same-test false true f g = g refl
-same-test false false f g = refl
 
 -- ---- zeros
 

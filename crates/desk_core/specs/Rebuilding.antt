@@ -40,10 +40,6 @@ pub record PlaceRight (b : Place) : Type 0 where
   pub count-right : b .count ≤ most-hops
   pub links-right : All (λ l. l < most-links) (path-of b)
 
--- the event table and the free table have document 01's sizes
-abbrev pub TablesSized : List ℕ → List ℕ → Type 0
-TablesSized es t = (length es ≡ most-events) × (length t ≡ most-events * most-links)
-
 -- document 01's 'no link is oversold', in any minute
 abbrev pub NotOversold : List Link → Plain → Type 0
 NotOversold links p = (l m : ℕ) → l < length links → taken p l m ≤ capacity links l

@@ -19,7 +19,8 @@ ghost use Rattle.units.specs.Limits.{most-links, last-minute, longest};
 ghost use Rattle.timeline.specs.Insertion.{with-span, with-span-rows, Room};
 ghost use Rattle.desk_core.specs.Tables.{plain-in, event-table, free-table};
 ghost use Rattle.units.specs.LinkTables.{links-of};
-ghost use Rattle.desk_core.specs.Rebuilding.{path-of, release-of, less-path, enough-path, PlaceRight, TablesSized, NotOversold, CanRebuild};
+ghost use Rattle.free_table.specs.Looking.{TablesSized};
+ghost use Rattle.desk_core.specs.Rebuilding.{path-of, release-of, less-path, enough-path, PlaceRight, NotOversold, CanRebuild};
 
 // The minute at which a booking releases its links.
 fn release_minute(b: Booking) -> Minute

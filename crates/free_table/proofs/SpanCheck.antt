@@ -12,7 +12,7 @@ use lib.Seq.{getD-drop}
 use Rattle.units.specs.Limits.{most-links, most-events}
 use Rattle.units.specs.Lists.{padded}
 use Rattle.units.specs.Search.{allFrom}
-use Rattle.units.proofs.Tests.{at-most}
+use Rattle.units.proofs.Tests.{at-most, same-test}
 use Rattle.units.proofs.Search.{allFrom-all, all-allFrom}
 use Rattle.timeline.specs.Events.{events}
 use Rattle.timeline.proofs.Steady.{ChangesAt}
@@ -21,12 +21,6 @@ use Rattle.timeline.proofs.Places.{event, row-of, row-below, row-early, event-r
 use Rattle.free_table.specs.Figures.{table, kept}
 use Rattle.free_table.specs.Looking.{enough-rows, enough-span}
 use Rattle.free_table.proofs.Figures.{kept-figure}
-
--- two tests that pass together are the same
-same-test : (a b : Bool) → (a ≡ true → b ≡ true) → (b ≡ true → a ≡ true) → a ≡ b
-same-test true b p q = sym (p refl)
-same-test false true p q = q refl
-same-test false false p q = refl
 
 -- tests that agree on the range pass together
 pub allFrom-agree : (p q : ℕ → Bool) (i n : ℕ) → ((k : ℕ) → i ≤ k → k < i + n → p k ≡ q k) → allFrom i n p ≡ allFrom i n q

@@ -15,8 +15,9 @@ use Rattle.timeline.proofs.Steady.{NoneBetween}
 use Rattle.path_search.specs.Paths.{Graph}
 use Rattle.choice.specs.declared.StartChoice.the-variants.{Start, Refused}
 use Rattle.choice.specs.declared.Chosen.{Chosen}
-use Rattle.choice.specs.Choice.{Choice, granted, no-start, possible, choose}
+use Rattle.choice.specs.Choice.{Choice, possible, choose}
 use Rattle.choice.specs.Answer.{chosen}
+use Rattle.choice.proofs.Answers.{started, none-started}
 use Rattle.listing.specs.Ranges.{Range, rangesFrom, ranges, figures, list-table, start-or}
 use Rattle.listing.specs.Right.{RunEnd}
 use Rattle.listing.proofs.Laws.{IsRange, AreRanges, fails-first, are-ranges, are-only}
@@ -26,18 +27,10 @@ use Rattle.listing.proofs.Theorems.{ChoiceFound, found, none-found, cho
 
 module _ (c : Choice) (a : Chosen) (e : a ≡ chosen c) (after : ℕ) where
   pub start-is : (m : Minute) → a .choice ≡ Start m → m .0 ≡ start-or after c
-  start-is m s = by c e
-    where
-      by : (x : Choice) → a ≡ chosen x → m .0 ≡ start-or after x
-      by (granted g) e = let z : Start (record { 0 = g .start }) ≡ Start m = sym (ap (λ y. y .choice) e) ∙ s in let same : record { 0 = g .start } ≡ m = cc in sym (ap (λ (y : Minute). y .0) same)
-      by no-start e = let z : Refused 8 ≡ Start m = sym (ap (λ y. y .choice) e) ∙ s in absurd (let y : _≡_ {A = ℕ} 0 1 = cc in omega arith)
+  start-is m s = let w = started c a e m s in ap (λ (x : Minute). x .0) (w .start-is) ∙ sym (ap (start-or after) (w .is-granted))
 
   pub refused-is : (k : ℕ) → a .choice ≡ Refused k → after ≡ start-or after c
-  refused-is k s = by c e
-    where
-      by : (x : Choice) → a ≡ chosen x → after ≡ start-or after x
-      by (granted g) e = let z : Start (record { 0 = g .start }) ≡ Refused k = sym (ap (λ y. y .choice) e) ∙ s in absurd (let y : _≡_ {A = ℕ} 0 1 = cc in omega arith)
-      by no-start e = refl
+  refused-is k s = sym (ap (start-or after) (none-started c a e k s))
 
 -- s is the first minute from e on that passes, or the end of the window
 pub record NextStart (test : ℕ → Bool) (e end s : ℕ) : Type 0 where

@@ -44,8 +44,8 @@ has-bandwidth-requires c κs =
     let b = s .args .b in
     let end = c .before .before .release-minute .ensures in (
       record {
-        events-sized = s .pre .0 .0;
-        free-sized = s .pre .0 .1;
+        events-sized = s .pre .0 .events-sized;
+        free-sized = s .pre .0 .free-sized;
         column = all-along (b .links) (b .count) (c .before .loop .i) (path-whole s) (λ l. l < most-links) (r .links-right) (c .loop-test .taken);
       },
       omega (arith, end, r .duration-right .0),

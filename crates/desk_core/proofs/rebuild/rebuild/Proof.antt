@@ -9,7 +9,8 @@ use lib.ListN.{length}
 use borrow.Author.Tests.{not-true, not-false}
 use Rattle.units.specs.declared.LinkTable.{LinkTable}
 use Rattle.units.specs.LinkTables.{links-of}
-use Rattle.desk_core.specs.Rebuilding.{TablesSized, CanRebuild}
+use Rattle.free_table.specs.Looking.{TablesSized}
+use Rattle.desk_core.specs.Rebuilding.{CanRebuild}
 use Rattle.desk_core.proofs.LinkColumns.{capacities-long}
 use Rattle.desk_core.proofs.Rebuilt.{Rebuilt, from-place, from-first, rebuilt-none, place-sizes, place-asks, place-gives}
 use Rattle.desk_core.proofs.rebuild.rebuild.Statement.{statement}

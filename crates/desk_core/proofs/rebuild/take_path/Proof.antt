@@ -45,8 +45,8 @@ take-bandwidth-requires c κs =
     let b = s .args .b in
     let end = c .before .before .before .release-minute .ensures in (
       record {
-        events-sized = s .pre .0 .0;
-        free-sized = c .before .before .loop .inv .1 .0 ∙ s .pre .0 .1;
+        events-sized = s .pre .0 .events-sized;
+        free-sized = c .before .before .loop .inv .1 .0 ∙ s .pre .0 .free-sized;
         column = all-along (b .links) (b .count) (c .before .before .loop .i) (path-whole s) (λ l. l < most-links) (r .links-right) (omega arith);
       },
       omega (arith, end),

@@ -1,5 +1,6 @@
 -- `listing_refusal` meets its contract: what the tables' checks say, with the list's size between them.
-use mathlib.Core.Path.{sym, ap, _∙_}
+use mathlib.Core.Path.{_≡_, sym, ap, _∙_}
+use native.Mathlib.Omega.{arith}
 use lib.Dec.{eqb}
 use mathlib.Core.Bool.{true}
 use borrow.Author.Needs.{needs}
@@ -19,7 +20,8 @@ returns : tie.Need-returns
 returns c =
     let a = c .before .before .before .before .before .args in
     let r = c .before .table-refusal in
-    c .if1 .taken ∙ sym (says-1 (links-of (a .links)) (lent (a .head) (now (a .events)) (now (a .free)) (now (a .book))) (eqb (a .list) list-size) (size-refused (links-of (a .links)) (lent (a .head) (now (a .events)) (now (a .free)) (now (a .book))) true (sym (r .ensures) ∙ c .if1 .taken)))
+    let one : r .result ≡ 1 = omega (arith, c .if1 .taken) in
+    one ∙ sym (says-1 (links-of (a .links)) (lent (a .head) (now (a .events)) (now (a .free)) (now (a .book))) (eqb (a .list) list-size) (size-refused (links-of (a .links)) (lent (a .head) (now (a .events)) (now (a .free)) (now (a .book))) true (sym (r .ensures) ∙ one)))
 
 returns-2 : tie.Need-returns-2
 returns-2 c =

@@ -13,7 +13,8 @@ use Rattle.desk_core.specs.Lent.{lent}
 use Rattle.desk_core.specs.Checking.{book-ok, BookFits}
 use Rattle.desk_core.proofs.Tests.{Sized, sized-tells}
 use Rattle.desk_core.proofs.LinkColumns.{links-count}
-use Rattle.desk_core.proofs.Tidy.{same-test, book-tells, book-counts}
+use Rattle.units.proofs.Tests.{same-test}
+use Rattle.desk_core.proofs.Tidy.{book-tells, book-counts}
 use Rattle.desk_core.proofs.Checked.{checked-sound, sound-checked, unsound}
 use Rattle.desk_core.proofs.soundness.sound.Statement.{statement}
 use Rattle.desk_core.proofs.soundness.sound.Tie as tie
