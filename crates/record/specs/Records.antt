@@ -78,8 +78,11 @@ abbrev pub behind-kind : OrderFields → List ℕ
 behind-kind f = f .number ∷ f .from ∷ f .to ∷ f .bandwidth ∷ f .duration ∷ f .earliest ∷ f .latest ∷ []
 
 -- a latest of all ones means open
+abbrev pub all-ones : ℕ
+all-ones = 2 ^ 30 - 1
+
 abbrev pub latest-of : ℕ → Latest
-latest-of field = if-passed (eqb field (2 ^ 30 - 1)) Open (Given (record { 0 = field }))
+latest-of field = if-passed (eqb field all-ones) Open (Given (record { 0 = field }))
 
 abbrev pub wish-of : OrderFields → Wish
 wish-of f = record {

@@ -1,6 +1,9 @@
-// The two records of document 01, a link of 64 bits and an order of 128, read from bytes of any number. The station's
-// C daemon calls `gcr_read_order` and `gcr_read_link`; other crates call `read_order` and `read_link`. Nothing here
-// knows a desk: whether a figure is in range for a booking is not asked.
+// The two records of document 01, a link of 64 bits and an order of 128, read from bytes of any number and written into
+// a lent piece of bytes. The station's C daemon calls `gcr_read_order` and `gcr_read_link`, a branch desk's program
+// `gcr_write_order` and `gcr_write_link`; other crates call the four without `gcr`. Nothing here knows a desk: whether a
+// figure is in range for a booking is not asked.
+mod writing;
+
 ghost use mathlib.Core.Path.{_≡_};
 ghost use Prim.Native.Nat.{_+_, _*_, _^_, _≤_};
 ghost use mathlib.Core.List.{_∷_, []};
@@ -9,13 +12,21 @@ ghost use lib.ListN.{length, take, drop};
 ghost use Rattle.units.specs.Lists.{all};
 ghost use Rattle.record.specs.Layout.{big-endian, cut, order-widths, link-widths};
 ghost use Rattle.record.specs.Records.{order-fields, link-fields, latest-of, wish-of, order-from, link-from, order-read, link-read};
-ghost use Rattle.record.specs.Values.{latest-minute, open-flag, request-of, only-earliest, request-values, plain-values, values-of, order-values, link-values};
+ghost use Rattle.record.specs.Forms.{order-refusal, order-written, link-refusal, link-written};
+ghost use Rattle.record.specs.Values.{latest-from, form-of, latest-minute, open-flag, request-of, only-earliest, request-values, plain-values, values-of, order-values, link-values};
 use units::Bandwidth;
 use units::Duration;
 use units::Link;
 use units::MAX_MINUTE;
 use units::Minute;
 use units::Request;
+use writing::form_fields;
+use writing::form_refusal;
+use writing::link_fits;
+use writing::pack_link;
+use writing::pack_order;
+use writing::write_word;
+use writing::write_words;
 
 // The bytes of an order, of a link, and of a word.
 const ORDER_BYTES: usize = 16;
@@ -28,6 +39,9 @@ const WORD: usize = 8;
 const BAD_BITS: u32 = 11;
 
 const BAD_LENGTH: u32 = 12;
+
+// A figure that is too large for its field, or a latest start that would be read as open.
+const BAD_FIGURE: u32 = 4;
 
 // The kinds of an order.
 const BOOK: u32 = 1;
@@ -75,6 +89,13 @@ pub enum OrderRead {
 pub enum LinkRead {
     Read(Link),
     Refused(u32),
+}
+
+// An order as a form that is to be written: a kind by its number, and every field, also those that the kind does not use.
+pub struct OrderForm {
+    pub kind: u32,
+    pub number: u32,
+    pub wish: Wish,
 }
 
 // The eight fields of an order, as cut from its bits.
@@ -292,6 +313,42 @@ pub fn read_link(bytes: &[u8]) -> LinkRead
     link_from(cut_link(word(bytes, 0)))
 }
 
+// Writes an order over a piece of 16 bytes and answers 0; or leaves the piece as it is and answers 12 for a wrong number
+// of bytes, then 11 for an unknown kind or a filled field that the kind does not use, then 4 for a figure too large for
+// its field or a given latest start of all ones.
+pub fn write_order(bytes: &mut [u8], form: OrderForm) -> u32
+    ensures { λ r. ⌜ r ≡ order-refusal (length (now (bytes .entry))) form ⌝ }
+    ensures { λ _. ⌜ now (bytes .exit) ≡ order-written (now (bytes .entry)) form ⌝ }
+{
+    if bytes.len() != ORDER_BYTES {
+        return BAD_LENGTH;
+    }
+    let refusal = form_refusal(form);
+    if refusal != 0 {
+        return refusal;
+    }
+    let words = pack_order(form_fields(form));
+    write_words(bytes, words);
+    0
+}
+
+// Writes a link over a piece of 8 bytes and answers 0; or leaves the piece as it is and answers 12 for a wrong number of
+// bytes, then 4 for a figure too large for its field.
+pub fn write_link(bytes: &mut [u8], link: Link) -> u32
+    ensures { λ r. ⌜ r ≡ link-refusal (length (now (bytes .entry))) link ⌝ }
+    ensures { λ _. ⌜ now (bytes .exit) ≡ link-written (now (bytes .entry)) link ⌝ }
+{
+    if bytes.len() != LINK_BYTES {
+        return BAD_LENGTH;
+    }
+    if !link_fits(link) {
+        return BAD_FIGURE;
+    }
+    let word = pack_link(link);
+    write_word(bytes, word);
+    0
+}
+
 // The minute of a latest start; that of an open one is the last.
 fn latest_minute(latest: Latest) -> u32
     ensures { λ r. ⌜ r ≡ latest-minute latest ⌝ }
@@ -412,4 +469,62 @@ pub extern "C" fn gcr_read_link(bytes: &[u8]) -> LinkRecord
             },
         },
     }
+}
+
+// The latest start that a minute and a flag say: open, whatever the minute, unless the flag is 0.
+fn latest_from(minute: Minute, flag: u32) -> Latest
+    ensures { λ r. ⌜ r ≡ latest-from minute flag ⌝ }
+{
+    if flag == 0 {
+        Latest::Given(minute)
+    } else {
+        Latest::Open
+    }
+}
+
+// The form that a program in another language fills.
+fn form_of(kind: u32, number: u32, request: Request, flag: u32) -> OrderForm
+    ensures { λ r. ⌜ r ≡ form-of kind number request flag ⌝ }
+{
+    let bandwidth = request.bandwidth;
+    let duration = request.duration;
+    let earliest = request.earliest;
+    let latest = request.latest;
+    OrderForm {
+        kind,
+        number,
+        wish: Wish {
+            from: request.from,
+            to: request.to,
+            bandwidth,
+            duration,
+            earliest,
+            latest: latest_from(latest, flag),
+        },
+    }
+}
+
+// Writes an order for C. A `latest_open` other than 0 is an open latest start, and the request's minute is not looked at.
+#[no_mangle]
+pub extern "C" fn gcr_write_order(
+    bytes: &mut [u8],
+    kind: u32,
+    number: u32,
+    request: Request,
+    latest_open: u32,
+) -> u32
+    ensures { λ r. ⌜ r ≡ order-refusal (length (now (bytes .entry))) (form-of kind number request latest_open) ⌝ }
+    ensures { λ _. ⌜ now (bytes .exit) ≡ order-written (now (bytes .entry)) (form-of kind number request latest_open) ⌝ }
+{
+    let form = form_of(kind, number, request, latest_open);
+    write_order(bytes, form)
+}
+
+// Writes a link for C.
+#[no_mangle]
+pub extern "C" fn gcr_write_link(bytes: &mut [u8], link: Link) -> u32
+    ensures { λ r. ⌜ r ≡ link-refusal (length (now (bytes .entry))) link ⌝ }
+    ensures { λ _. ⌜ now (bytes .exit) ≡ link-written (now (bytes .entry)) link ⌝ }
+{
+    write_link(bytes, link)
 }

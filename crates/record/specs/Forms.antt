@@ -1,0 +1,77 @@
+-- Document 02's writer: which forms are refused, and what a lent piece of bytes holds afterwards.
+use mathlib.Core.List.{List, [], _∷_}
+use mathlib.Core.Bool.{Bool, true, false, _&&_, not}
+use Prim.Native.Nat.{ℕ}
+use lib.Dec.{eqb}
+use lib.ListN.{length}
+use Rattle.units.specs.declared.Link.{Link}
+use Rattle.record.specs.declared.Latest.{Latest}
+use Rattle.record.specs.declared.Latest.the-variants.{Open, Given}
+use Rattle.record.specs.declared.OrderForm.{OrderForm}
+use Rattle.record.specs.declared.OrderRead.{OrderRead}
+use Rattle.record.specs.declared.OrderRead.the-variants as orders
+use Rattle.record.specs.declared.OrderFields.{OrderFields}
+use Rattle.record.specs.Layout.{pack, fits, spelled, order-widths, link-widths, order-bytes, link-bytes}
+use Rattle.record.specs.Records.{bad-bits, bad-length, if-passed, behind-kind, all-ones, order-from}
+
+-- refusal number: a figure too large for its field, or a latest start that would be read as open
+abbrev pub bad-figure : ℕ
+bad-figure = 4
+
+-- an open latest start is written as all ones
+abbrev pub latest-field : Latest → ℕ
+latest-field Open = all-ones
+latest-field (Given m) = m .0
+
+-- so no given one is
+abbrev pub tellable : Latest → Bool
+tellable Open = true
+tellable (Given m) = not (eqb (m .0) all-ones)
+
+-- the figures of a form by name
+abbrev pub form-fields : OrderForm → OrderFields
+form-fields form = record {
+  kind = form .kind;
+  number = form .number;
+  from = form .wish .from;
+  to = form .wish .to;
+  bandwidth = form .wish .bandwidth .0;
+  duration = form .wish .duration .0;
+  earliest = form .wish .earliest .0;
+  latest = latest-field (form .wish .latest);
+}
+
+-- the same in the order of the layout
+abbrev pub order-figures : OrderFields → List ℕ
+order-figures f = f .kind ∷ behind-kind f
+
+-- whether the reader takes fields for an order: a known kind, and no field filled that it does not use
+abbrev pub taken : OrderRead → Bool
+taken (orders.Read order) = true
+taken (orders.Refused number) = false
+
+-- every figure has room in its field
+unfoldable pub form-fits : OrderForm → Bool
+form-fits form = fits order-widths (order-figures (form-fields form)) && tellable (form .wish .latest)
+
+-- the refusal of a form, 0 if there is none
+unfoldable pub form-refusal : OrderForm → ℕ
+form-refusal form = if-passed (taken (order-from (form-fields form))) (if-passed (form-fits form) 0 bad-figure) bad-bits
+
+-- the same for a piece of so many bytes
+unfoldable pub order-refusal : ℕ → OrderForm → ℕ
+order-refusal count form = if-passed (eqb count order-bytes) (form-refusal form) bad-length
+
+-- the piece afterwards: the record, or untouched
+unfoldable pub order-written : List ℕ → OrderForm → List ℕ
+order-written piece form = if-passed (eqb (order-refusal (length piece) form) 0) (spelled order-bytes (pack order-widths (order-figures (form-fields form)))) piece
+
+-- the figures of a link in the order of the layout
+abbrev pub link-figures : Link → List ℕ
+link-figures l = l .from ∷ l .to ∷ l .capacity .0 ∷ 0 ∷ []
+
+unfoldable pub link-refusal : ℕ → Link → ℕ
+link-refusal count l = if-passed (eqb count link-bytes) (if-passed (fits link-widths (link-figures l)) 0 bad-figure) bad-length
+
+unfoldable pub link-written : List ℕ → Link → List ℕ
+link-written piece l = if-passed (eqb (link-refusal (length piece) l) 0) (spelled link-bytes (pack link-widths (link-figures l))) piece

@@ -1,0 +1,173 @@
+// How a form becomes bytes: which forms are refused, the words of a record, and a word as its bytes. `write_order` and
+// `write_link` call these; only `write_word` and `write_words` write.
+use crate::BAD_BITS;
+use crate::BAD_FIGURE;
+use crate::Latest;
+use crate::OPEN;
+use crate::OrderFields;
+use crate::OrderForm;
+use crate::OrderRead;
+use crate::WORD;
+use crate::order_from;
+use units::Link;
+ghost use mathlib.Core.Path.{_≡_};
+ghost use mathlib.Core.Bool.{true, _&&_};
+ghost use mathlib.Core.List.{_++_};
+ghost use Prim.Native.Nat.{_+_, _*_, _^_, _≤_, _<_};
+ghost use lib.Dec.{ltb};
+ghost use lib.ListN.{length, drop};
+ghost use Rattle.record.specs.Layout.{pack, fits, spelled, order-widths, link-widths};
+ghost use Rattle.record.specs.Forms.{latest-field, tellable, form-fields, order-figures, taken, form-fits, form-refusal, link-figures};
+
+// The first and the last eight bytes of an order as numbers.
+pub struct Words {
+    pub high: u64,
+    pub low: u64,
+}
+
+// The field of a latest start: all ones where it is open.
+fn latest_field(latest: Latest) -> u32
+    ensures { λ r. ⌜ r ≡ latest-field latest ⌝ }
+{
+    match latest {
+        Latest::Open => OPEN,
+        Latest::Given(m) => m.0,
+    }
+}
+
+// Whether a latest start is read back as it is: a given minute of all ones is not.
+fn tellable(latest: Latest) -> bool
+    ensures { λ r. ⌜ r ≡ tellable latest ⌝ }
+{
+    match latest {
+        Latest::Open => true,
+        Latest::Given(m) => m.0 != OPEN,
+    }
+}
+
+// The eight fields of a form.
+pub(crate) fn form_fields(form: OrderForm) -> OrderFields
+    ensures { λ r. ⌜ r ≡ form-fields form ⌝ }
+{
+    let wish = form.wish;
+    let latest = wish.latest;
+    OrderFields {
+        kind: form.kind,
+        number: form.number,
+        from: wish.from,
+        to: wish.to,
+        bandwidth: wish.bandwidth.0,
+        duration: wish.duration.0,
+        earliest: wish.earliest.0,
+        latest: latest_field(latest),
+    }
+}
+
+// Whether a field is below a size, and those behind it fit.
+fn below(field: u32, size: u32, behind: bool) -> bool
+    ensures { λ r. ⌜ r ≡ (ltb field size && behind) ⌝ }
+{
+    field < size && behind
+}
+
+// Whether no field of an order is too large for its width.
+fn order_fits(f: OrderFields) -> bool
+    ensures { λ r. ⌜ r ≡ fits order-widths (order-figures f) ⌝ }
+{
+    let window = below(f.earliest, 1 << 30, below(f.latest, 1 << 30, true));
+    let asked = below(f.bandwidth, 1 << 20, below(f.duration, 1 << 20, window));
+    let routed = below(f.from, 1 << 5, below(f.to, 1 << 5, asked));
+    below(f.kind, 1 << 4, below(f.number, 1 << 14, routed))
+}
+
+// Whether no field of a link is too large for its width.
+pub(crate) fn link_fits(link: Link) -> bool
+    ensures { λ r. ⌜ r ≡ fits link-widths (link-figures link) ⌝ }
+{
+    let wide = below(link.capacity.0, 1 << 20, true);
+    below(link.from, 1 << 5, below(link.to, 1 << 5, wide))
+}
+
+// Whether the figures of a form have room in their fields, and its latest start is read back as it is.
+fn form_fits(form: OrderForm) -> bool
+    ensures { λ r. ⌜ r ≡ form-fits form ⌝ }
+{
+    let wish = form.wish;
+    let latest = wish.latest;
+    order_fits(form_fields(form)) && tellable(latest)
+}
+
+// Whether the reader took fields for an order.
+fn taken(read: OrderRead) -> bool
+    ensures { λ r. ⌜ r ≡ taken read ⌝ }
+{
+    match read {
+        OrderRead::Read(_) => true,
+        OrderRead::Refused(_) => false,
+    }
+}
+
+// 11 for a form that the reader would not take for an order, then 4 for one that does not fit; else 0.
+pub(crate) fn form_refusal(form: OrderForm) -> u32
+    ensures { λ r. ⌜ r ≡ form-refusal form ⌝ }
+{
+    if !taken(order_from(form_fields(form))) {
+        return BAD_BITS;
+    }
+    if form_fits(form) { 0 } else { BAD_FIGURE }
+}
+
+// A word with one more field behind it; `size` is how many values the field can hold.
+fn push(word: u64, size: u64, field: u32) -> u64
+    requires { ⌜ word * size + field < 2 ^ 64 ⌝ }
+    ensures { λ r. ⌜ r ≡ word * size + field ⌝ }
+{
+    word * size + field as u64
+}
+
+// The words of an order. The duration lies across the two.
+pub(crate) fn pack_order(f: OrderFields) -> Words
+    requires { ⌜ fits order-widths (order-figures f) ≡ true ⌝ }
+    ensures { λ r. ⌜ r .high * 2 ^ 64 + r .low ≡ pack order-widths (order-figures f) ⌝ }
+{
+    let numbered = push(f.kind as u64, 1 << 14, f.number);
+    let routed = push(push(numbered, 1 << 5, f.from), 1 << 5, f.to);
+    let wide = push(routed, 1 << 20, f.bandwidth);
+    let timed = push((f.duration % (1 << 4)) as u64, 1 << 30, f.earliest);
+    Words {
+        high: push(wide, 1 << 16, f.duration >> 4),
+        low: push(timed, 1 << 30, f.latest),
+    }
+}
+
+// The word of a link; its last 34 bits are zero.
+pub(crate) fn pack_link(link: Link) -> u64
+    requires { ⌜ fits link-widths (link-figures link) ≡ true ⌝ }
+    ensures { λ r. ⌜ r ≡ pack link-widths (link-figures link) ⌝ }
+{
+    let routed = push(link.from as u64, 1 << 5, link.to);
+    push(routed, 1 << 20, link.capacity.0) * (1 << 34)
+}
+
+// Writes a word over the first eight bytes of the part, the most significant byte first.
+pub(crate) fn write_word(part: &mut [u8], word: u64)
+    requires { ⌜ 8 ≤ length (now part) ⌝ }
+    ensures { λ _. ⌜ now (part .exit) ≡ spelled 8 word ++ drop 8 (now (part .entry)) ⌝ }
+{
+    let mut left = word;
+    let mut i = WORD;
+    while 0 < i {
+        i -= 1;
+        part[i] = (left % 256) as u8;
+        left /= 256;
+    }
+}
+
+// Writes the two words of an order over its 16 bytes.
+pub(crate) fn write_words(bytes: &mut [u8], words: Words)
+    requires { ⌜ length (now bytes) ≡ 16 ⌝ }
+    ensures { λ _. ⌜ now (bytes .exit) ≡ spelled 16 (words .high * 2 ^ 64 + words .low) ⌝ }
+{
+    write_word(bytes, words.high);
+    write_word(&mut bytes[WORD..], words.low);
+}
