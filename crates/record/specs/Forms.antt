@@ -54,13 +54,9 @@ taken (orders.Refused number) = false
 unfoldable pub form-fits : OrderForm → Bool
 form-fits form = fits order-widths (order-figures (form-fields form)) && tellable (form .wish .latest)
 
--- the refusal of a form, 0 if there is none
-unfoldable pub form-refusal : OrderForm → ℕ
-form-refusal form = if-passed (taken (order-from (form-fields form))) (if-passed (form-fits form) 0 bad-figure) bad-bits
-
--- the same for a piece of so many bytes
+-- the refusal of a form for a piece of so many bytes, 0 if there is none
 unfoldable pub order-refusal : ℕ → OrderForm → ℕ
-order-refusal count form = if-passed (eqb count order-bytes) (form-refusal form) bad-length
+order-refusal count form = if-passed (eqb count order-bytes) (if-passed (taken (order-from (form-fields form))) (if-passed (form-fits form) 0 bad-figure) bad-bits) bad-length
 
 -- the piece afterwards: the record, or untouched
 unfoldable pub order-written : List ℕ → OrderForm → List ℕ

@@ -21,8 +21,8 @@ use units::MAX_MINUTE;
 use units::Minute;
 use units::Request;
 use writing::form_fields;
-use writing::form_refusal;
-use writing::link_fits;
+use writing::link_refusal;
+use writing::order_refusal;
 use writing::pack_link;
 use writing::pack_order;
 use writing::write_word;
@@ -320,16 +320,13 @@ pub fn write_order(bytes: &mut [u8], form: OrderForm) -> u32
     ensures { λ r. ⌜ r ≡ order-refusal (length (now (bytes .entry))) form ⌝ }
     ensures { λ _. ⌜ now (bytes .exit) ≡ order-written (now (bytes .entry)) form ⌝ }
 {
-    if bytes.len() != ORDER_BYTES {
-        return BAD_LENGTH;
-    }
-    let refusal = form_refusal(form);
+    let refusal = order_refusal(bytes.len(), form);
     if refusal != 0 {
         return refusal;
     }
     let words = pack_order(form_fields(form));
     write_words(bytes, words);
-    0
+    refusal
 }
 
 // Writes a link over a piece of 8 bytes and answers 0; or leaves the piece as it is and answers 12 for a wrong number of
@@ -338,15 +335,13 @@ pub fn write_link(bytes: &mut [u8], link: Link) -> u32
     ensures { λ r. ⌜ r ≡ link-refusal (length (now (bytes .entry))) link ⌝ }
     ensures { λ _. ⌜ now (bytes .exit) ≡ link-written (now (bytes .entry)) link ⌝ }
 {
-    if bytes.len() != LINK_BYTES {
-        return BAD_LENGTH;
-    }
-    if !link_fits(link) {
-        return BAD_FIGURE;
+    let refusal = link_refusal(bytes.len(), link);
+    if refusal != 0 {
+        return refusal;
     }
     let word = pack_link(link);
     write_word(bytes, word);
-    0
+    refusal
 }
 
 // The minute of a latest start; that of an open one is the last.

@@ -2,8 +2,11 @@
 // `write_link` call these; only `write_word` and `write_words` write.
 use crate::BAD_BITS;
 use crate::BAD_FIGURE;
+use crate::BAD_LENGTH;
+use crate::LINK_BYTES;
 use crate::Latest;
 use crate::OPEN;
+use crate::ORDER_BYTES;
 use crate::OrderFields;
 use crate::OrderForm;
 use crate::OrderRead;
@@ -17,7 +20,7 @@ ghost use Prim.Native.Nat.{_+_, _*_, _^_, _≤_, _<_};
 ghost use lib.Dec.{ltb};
 ghost use lib.ListN.{length, drop};
 ghost use Rattle.record.specs.Layout.{pack, fits, spelled, order-widths, link-widths};
-ghost use Rattle.record.specs.Forms.{latest-field, tellable, form-fields, order-figures, taken, form-fits, form-refusal, link-figures};
+ghost use Rattle.record.specs.Forms.{latest-field, tellable, form-fields, order-figures, taken, form-fits, order-refusal, link-figures, link-refusal};
 
 // The first and the last eight bytes of an order as numbers.
 pub struct Words {
@@ -81,7 +84,7 @@ fn order_fits(f: OrderFields) -> bool
 }
 
 // Whether no field of a link is too large for its width.
-pub(crate) fn link_fits(link: Link) -> bool
+fn link_fits(link: Link) -> bool
     ensures { λ r. ⌜ r ≡ fits link-widths (link-figures link) ⌝ }
 {
     let wide = below(link.capacity.0, 1 << 20, true);
@@ -107,14 +110,35 @@ fn taken(read: OrderRead) -> bool
     }
 }
 
-// 11 for a form that the reader would not take for an order, then 4 for one that does not fit; else 0.
-pub(crate) fn form_refusal(form: OrderForm) -> u32
-    ensures { λ r. ⌜ r ≡ form-refusal form ⌝ }
+// The refusal of a form for a piece of so many bytes: 12 for a wrong number of them, 11 for a form that the reader would
+// not take for an order, 4 for one that does not fit; else 0.
+pub(crate) fn order_refusal(count: usize, form: OrderForm) -> u32
+    ensures { λ r. ⌜ r ≡ order-refusal count form ⌝ }
 {
+    if count != ORDER_BYTES {
+        return BAD_LENGTH;
+    }
     if !taken(order_from(form_fields(form))) {
         return BAD_BITS;
     }
-    if form_fits(form) { 0 } else { BAD_FIGURE }
+    if !form_fits(form) {
+        return BAD_FIGURE;
+    }
+    0
+}
+
+// The refusal of a link for a piece of so many bytes: 12 for a wrong number of them, 4 for a figure that is too large;
+// else 0.
+pub(crate) fn link_refusal(count: usize, link: Link) -> u32
+    ensures { λ r. ⌜ r ≡ link-refusal count link ⌝ }
+{
+    if count != LINK_BYTES {
+        return BAD_LENGTH;
+    }
+    if !link_fits(link) {
+        return BAD_FIGURE;
+    }
+    0
 }
 
 // A word with one more field behind it; `size` is how many values the field can hold.

@@ -1,0 +1,57 @@
+-- `order_refusal` meets its contract: the first test that fails decides.
+use mathlib.Core.Path.{_≡_, sym, _∙_, ap}
+use borrow.Author.Tests.{eq-eqb, ne-eqb, not-true, not-false}
+use Rattle.record.specs.Records.{order-from}
+use Rattle.record.specs.Forms.{form-fields, taken, order-refusal}
+use borrow.Author.Needs.{needs}
+use Rattle.record.proofs.writing.order_refusal.Statement.{statement}
+use Rattle.record.proofs.writing.order_refusal.Tie as tie
+
+returns : tie.Need-returns
+unfolding order-refusal
+returns c = rw (ne-eqb _ _ (c .if1 .taken))
+
+form-fields-requires : tie.Need-form-fields-requires
+form-fields-requires c κs = search needs
+
+order-from-requires : tie.Need-order-from-requires
+order-from-requires c κs = search needs
+
+taken-requires : tie.Need-taken-requires
+taken-requires c κs = search needs
+
+-- what the reader says of the form's fields
+judged : (c : tie.After-taken) → c .taken .result ≡ taken (order-from (form-fields (c .before .before .before .before .args .form)))
+judged c = c .taken .ensures ∙ ap (λ r. taken r) (c .before .order-from .ensures ∙ ap (λ f. order-from f) (c .before .before .form-fields .ensures))
+
+returns-2 : tie.Need-returns-2
+unfolding order-refusal
+returns-2 c = rw (eq-eqb _ _ (c .before .before .before .before .if1 .left), sym (judged (c .before)), not-true (c .before .taken .result) (c .if2 .taken))
+
+form-fits-requires : tie.Need-form-fits-requires
+form-fits-requires c κs = search needs
+
+returns-3 : tie.Need-returns-3
+unfolding order-refusal
+returns-3 c =
+    let t = c .before .before .before in
+    rw (eq-eqb _ _ (t .before .before .before .if1 .left), sym (judged t), not-false (t .taken .result) (c .before .before .if2 .left), sym (c .before .form-fits .ensures), not-true (c .before .form-fits .result) (c .if3 .taken))
+
+returns-4 : tie.Need-returns-4
+unfolding order-refusal
+returns-4 c =
+    let t = c .before .before .before in
+    rw (eq-eqb _ _ (t .before .before .before .if1 .left), sym (judged t), not-false (t .taken .result) (c .before .before .if2 .left), sym (c .before .form-fits .ensures), not-false (c .before .form-fits .result) (c .if3 .left))
+
+pub order-refusal-spec : {M : Type 1} → statement M
+order-refusal-spec =
+    tie.close
+    (tie.spec
+    returns
+    form-fields-requires
+    order-from-requires
+    taken-requires
+    returns-2
+    form-fits-requires
+    returns-3
+    returns-4)
