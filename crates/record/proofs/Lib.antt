@@ -5,4 +5,5 @@ pub mod Packing
 pub mod Written
 pub mod Unknown
 pub mod Reading
+pub mod RoundTrips
 pub mod Examples

@@ -55,7 +55,7 @@ pack-cut [] n = sym (mod-one n)
 pack-cut (w ∷ ws) n = ap (λ x. n / 2 ^ sum ws % 2 ^ w * 2 ^ sum ws + x) (pack-cut ws n) ∙ sym (mod-pow-add n w (sum ws))
 
 -- as many fields as widths
-pub length-cut : (ws : List ℕ) (n : ℕ) → length (cut ws n) ≡ length ws
+length-cut : (ws : List ℕ) (n : ℕ) → length (cut ws n) ≡ length ws
 unfolding cut
 length-cut [] n = refl
 length-cut (w ∷ ws) n = ap suc (length-cut ws n)
@@ -102,12 +102,21 @@ bytes-fit [] h = refl
 bytes-fit (b ∷ bs) h = rw (lt-ltb b 256 (h .0)) (bytes-fit bs (h .1))
 
 -- the number that the bytes of a number make, and the bytes of the number that bytes make
-pub spelled-number : (count n : ℕ) → n < 2 ^ sum (replicate count 8) → big-endian (spelled count n) ≡ n
+spelled-number : (count n : ℕ) → n < 2 ^ sum (replicate count 8) → big-endian (spelled count n) ≡ n
 spelled-number count n h =
     packed-bytes (spelled count n)
     ∙ ap (λ k. pack (replicate k 8) (spelled count n)) (length-cut (replicate count 8) n ∙ length-replicate count 8)
     ∙ pack-cut (replicate count 8) n
     ∙ mod-eq-of-lt h
 
-pub number-spelled : (bytes : List ℕ) → All (λ b. b < 256) bytes → spelled (length bytes) (big-endian bytes) ≡ bytes
+number-spelled : (bytes : List ℕ) → All (λ b. b < 256) bytes → spelled (length bytes) (big-endian bytes) ≡ bytes
 number-spelled bytes h = ap (spelled (length bytes)) (packed-bytes bytes) ∙ cut-pack (replicate (length bytes) 8) bytes (sym (length-replicate (length bytes) 8)) (bytes-fit bytes h)
+
+-- a record of any layout that fills its bytes: written and read, and read and written
+pub read-back : (ws fs : List ℕ) (count : ℕ) → sum ws ≡ sum (replicate count 8) → length fs ≡ length ws → fits ws fs ≡ true → cut ws (big-endian (spelled count (pack ws fs))) ≡ fs
+read-back ws fs count s l e = ap (cut ws) (spelled-number count (pack ws fs) (rw (← s) (pack-below ws fs e))) ∙ cut-pack ws fs l e
+
+pub write-back : (ws bytes : List ℕ) → sum ws ≡ sum (replicate (length bytes) 8) → All (λ b. b < 256) bytes → spelled (length bytes) (pack ws (cut ws (big-endian bytes))) ≡ bytes
+write-back ws bytes s h =
+    let below : big-endian bytes < 2 ^ sum ws = rw (packed-bytes bytes, s) (pack-below (replicate (length bytes) 8) bytes (bytes-fit bytes h)) in
+    ap (spelled (length bytes)) (pack-cut ws (big-endian bytes) ∙ mod-eq-of-lt below) ∙ number-spelled bytes h

@@ -15,6 +15,7 @@ use Rattle.record.specs.declared.OrderRead.the-variants as orders
 use Rattle.record.specs.declared.OrderRecord.{OrderRecord}
 use Rattle.record.specs.Layout.{big-endian, cut, order-widths}
 use Rattle.record.specs.Records.{cancel, clock, offer, unknown, kind-of, uses, clear, behind-kind, if-passed, order-fields, latest-of, wish-of, order-of, order-from, order-read}
+use Rattle.record.specs.Forms.{taken}
 use Rattle.record.specs.Values.{open-flag, request-of, plain-values, order-values}
 
 -- the fields of the record that the bytes make
@@ -33,9 +34,9 @@ as-bits f = record { refusal = 0; kind = f .kind; number = f .number; request = 
 abbrev pub Wrong : OrderFields → Type 0
 Wrong f = (kind-of (f .kind) ≡ unknown) ⊎ (clear (uses (kind-of (f .kind))) (behind-kind f) ≡ false)
 
--- what the fields alone decide: they are handed back, or they are wrong and refused
-abbrev Judged : OrderFields → OrderRead → Type 0
-Judged f r = ((Wrong f → ⊥) × (order-values r ≡ as-bits f)) ⊎ (Wrong f × (r ≡ orders.Refused 11))
+-- what the fields alone decide: they are an order and handed back, or they are wrong and refused
+abbrev pub Judged : OrderFields → OrderRead → Type 0
+Judged f r = ((Wrong f → ⊥) × (order-values r ≡ as-bits f) × (taken r ≡ true)) ⊎ (Wrong f × (r ≡ orders.Refused 11))
 
 -- a passed test before another: the field is zero, and the other passes
 next-zero : (x : ℕ) (b : Bool) → (eqb x 0 && b) ≡ true → (x ≡ 0) × (b ≡ true)
@@ -58,7 +59,7 @@ module _ (n from to bw du ea la : ℕ) where
       let d = next-zero du _ (c .1) in
       let g = next-zero ea _ (d .1) in
       let h = next-zero la _ (g .1) in
-      inl (right (of 2) (λ q. let z : _≡_ {A = ℕ} 0 1 = cc in omega arith) e, rw (a .0, b .0, c .0, d .0, g .0, h .0))
+      inl (right (of 2) (λ q. let z : _≡_ {A = ℕ} 0 1 = cc in omega arith) e, rw (a .0, b .0, c .0, d .0, g .0, h .0), refl)
   cancels false e = inr (inr e, refl)
 
   moves : (t : Bool) → clear (uses clock) (behind-kind (of 3)) ≡ t → Judged (of 3) (if-passed t (order-of clock (of 3)) (orders.Refused 11))
@@ -70,32 +71,32 @@ module _ (n from to bw du ea la : ℕ) where
       let d = next-zero bw _ (c .1) in
       let g = next-zero du _ (d .1) in
       let h = next-zero la _ (g .1) in
-      inl (right (of 3) (λ q. let z : _≡_ {A = ℕ} 0 1 = cc in omega arith) e, rw (a .0, b .0, c .0, d .0, g .0, h .0))
+      inl (right (of 3) (λ q. let z : _≡_ {A = ℕ} 0 1 = cc in omega arith) e, rw (a .0, b .0, c .0, d .0, g .0, h .0), refl)
   moves false e = inr (inr e, refl)
 
   offers : (t : Bool) → clear (uses offer) (behind-kind (of 4)) ≡ t → Judged (of 4) (if-passed t (order-of offer (of 4)) (orders.Refused 11))
   unfolding clear
-  offers true e = let a = next-zero n _ e in inl (right (of 4) (λ q. let z : _≡_ {A = ℕ} 0 1 = cc in omega arith) e, rw (a .0))
+  offers true e = let a = next-zero n _ e in inl (right (of 4) (λ q. let z : _≡_ {A = ℕ} 0 1 = cc in omega arith) e, rw (a .0), refl)
   offers false e = inr (inr e, refl)
 
   judged : (k : ℕ) → Judged (of k) (order-from (of k))
   unfolding order-from clear
   judged zero = inr (inl refl, refl)
-  judged (suc zero) = inl (right (of 1) (λ q. let z : _≡_ {A = ℕ} 0 1 = cc in omega arith) refl, refl)
+  judged (suc zero) = inl (right (of 1) (λ q. let z : _≡_ {A = ℕ} 0 1 = cc in omega arith) refl, refl, refl)
   judged (suc (suc zero)) = cancels _ refl
   judged (suc (suc (suc zero))) = moves _ refl
   judged (suc (suc (suc (suc zero)))) = offers _ refl
   judged (suc (suc (suc (suc (suc k))))) = inr (inl refl, refl)
 
-decided : (f : OrderFields) → Judged f (order-from f)
+pub decided : (f : OrderFields) → Judged f (order-from f)
 decided f = judged (f .number) (f .from) (f .to) (f .bandwidth) (f .duration) (f .earliest) (f .latest) (f .kind)
 
 -- an order of the right length, and one of a wrong length
-sized : (bytes : List ℕ) → length bytes ≡ 16 → order-read bytes ≡ order-from (fields-of bytes)
+pub sized : (bytes : List ℕ) → length bytes ≡ 16 → order-read bytes ≡ order-from (fields-of bytes)
 unfolding order-read
 sized bytes e = rw (eq-eqb _ _ e)
 
-missized : (bytes : List ℕ) → length bytes ≢ 16 → order-read bytes ≡ orders.Refused 12
+pub missized : (bytes : List ℕ) → length bytes ≢ 16 → order-read bytes ≡ orders.Refused 12
 unfolding order-read
 missized bytes h = rw (ne-eqb _ _ h)
 
@@ -125,18 +126,27 @@ bits-refused bytes = ((λ e. there (eqb (length bytes) 16) refl e (decided (fiel
     back l w (inl g) = absurd (g .0 w)
     back l w (inr j) = ap (λ r. order-values r .refusal) (sized bytes l ∙ j .1)
 
--- an order that is not refused is handed back as its bits say
-pub accepted-as-bits : (bytes : List ℕ) → refusal-of bytes ≡ 0 → order-values (order-read bytes) ≡ as-bits (fields-of bytes)
-accepted-as-bits bytes e = by (eqb (length bytes) 16) refl (decided (fields-of bytes))
+-- an order that is not refused is read, and handed back as its bits say
+accepted : (bytes : List ℕ) → refusal-of bytes ≡ 0 → (order-values (order-read bytes) ≡ as-bits (fields-of bytes)) × (taken (order-read bytes) ≡ true)
+accepted bytes e = by (eqb (length bytes) 16) refl (decided (fields-of bytes))
   where
-    by : (t : Bool) → eqb (length bytes) 16 ≡ t → Judged (fields-of bytes) (order-from (fields-of bytes)) → order-values (order-read bytes) ≡ as-bits (fields-of bytes)
-    by true q (inl g) = ap (λ r. order-values r) (sized bytes (eqb-true (length bytes) 16 q)) ∙ g .1
+    by : (t : Bool)
+        → eqb (length bytes) 16 ≡ t
+        → Judged (fields-of bytes) (order-from (fields-of bytes))
+        → (order-values (order-read bytes) ≡ as-bits (fields-of bytes)) × (taken (order-read bytes) ≡ true)
+    by true q (inl g) = let l = sized bytes (eqb-true (length bytes) 16 q) in (ap (λ r. order-values r) l ∙ g .1, ap (λ r. taken r) l ∙ g .2)
     by true q (inr w) =
         let z : _≡_ {A = ℕ} 0 11 = sym e ∙ ap (λ r. order-values r .refusal) (sized bytes (eqb-true (length bytes) 16 q) ∙ w .1) in
         absurd (omega arith)
     by false q j =
         let z : _≡_ {A = ℕ} 0 12 = sym e ∙ ap (λ r. order-values r .refusal) (missized bytes (eqb-false (length bytes) 16 q)) in
         absurd (omega arith)
+
+pub accepted-as-bits : (bytes : List ℕ) → refusal-of bytes ≡ 0 → order-values (order-read bytes) ≡ as-bits (fields-of bytes)
+accepted-as-bits bytes e = accepted bytes e .0
+
+pub accepted-taken : (bytes : List ℕ) → refusal-of bytes ≡ 0 → taken (order-read bytes) ≡ true
+accepted-taken bytes e = accepted bytes e .1
 
 -- a refusal hands back zero fields
 pub refused-is-zero : (bytes : List ℕ) (k : ℕ) → order-read bytes ≡ orders.Refused k → order-values (order-read bytes) ≡ plain-values k 0 0 0

@@ -36,11 +36,19 @@ writable count form e =
     let d = and-eq-true-iff (fits order-widths (order-figures (form-fields form))) (tellable (form .wish .latest)) .0 (c .0) in
     record { sized = eqb-true count 16 (a .0); known = b .0; room = d .0; told = d .1 }
 
+pub accepted : (count : ℕ) (form : OrderForm) → Writable count form → order-refusal count form ≡ 0
+unfolding order-refusal form-fits
+accepted count form w = rw (eq-eqb _ _ (w .sized), w .known, w .room, w .told)
+
 pub writable-link : (count : ℕ) (l : Link) → link-refusal count l ≡ 0 → (count ≡ 8) × (fits link-widths (link-figures l) ≡ true)
 unfolding link-refusal
 writable-link count l e =
     let a = passed (eqb count 8) _ 12 (λ z. omega arith) e in
     (eqb-true count 8 (a .0), passed (fits link-widths (link-figures l)) 0 4 (λ z. omega arith) (a .1) .0)
+
+pub accepted-link : (count : ℕ) (l : Link) → count ≡ 8 → fits link-widths (link-figures l) ≡ true → link-refusal count l ≡ 0
+unfolding link-refusal
+accepted-link count l s e = rw (eq-eqb _ _ s, e)
 
 -- a refusal leaves the piece as it came
 pub order-left : (piece : List ℕ) (form : OrderForm) → order-refusal (length piece) form ≢ 0 → order-written piece form ≡ piece

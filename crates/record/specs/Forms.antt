@@ -7,6 +7,9 @@ use lib.ListN.{length}
 use Rattle.units.specs.declared.Link.{Link}
 use Rattle.record.specs.declared.Latest.{Latest}
 use Rattle.record.specs.declared.Latest.the-variants.{Open, Given}
+use Rattle.record.specs.declared.Wish.{Wish}
+use Rattle.record.specs.declared.Order.{Order}
+use Rattle.record.specs.declared.Order.the-variants.{Book, Cancel, Clock, Offer}
 use Rattle.record.specs.declared.OrderForm.{OrderForm}
 use Rattle.record.specs.declared.OrderRead.{OrderRead}
 use Rattle.record.specs.declared.OrderRead.the-variants as orders
@@ -27,6 +30,17 @@ latest-field (Given m) = m .0
 abbrev pub tellable : Latest → Bool
 tellable Open = true
 tellable (Given m) = not (eqb (m .0) all-ones)
+
+-- a wish that holds its earliest minute and nothing else
+abbrev pub blank : ℕ → Wish
+blank m = record { from = 0; to = 0; bandwidth = record { 0 = 0 }; duration = record { 0 = 0 }; earliest = record { 0 = m }; latest = Given (record { 0 = 0 }) }
+
+-- the form of an order: zero where its kind uses nothing
+abbrev pub order-form : Order → OrderForm
+order-form (Book number w) = record { kind = 1; number = number; wish = w }
+order-form (Cancel number) = record { kind = 2; number = number; wish = blank 0 }
+order-form (Clock minute) = record { kind = 3; number = 0; wish = blank (minute .0) }
+order-form (Offer w) = record { kind = 4; number = 0; wish = w }
 
 -- the figures of a form by name
 abbrev pub form-fields : OrderForm → OrderFields
