@@ -5,5 +5,6 @@ pub mod Packing
 pub mod Written
 pub mod Unknown
 pub mod Reading
+pub mod Refusals
 pub mod RoundTrips
 pub mod Examples

@@ -335,13 +335,13 @@ pub fn write_link(bytes: &mut [u8], link: Link) -> u32
     ensures { λ r. ⌜ r ≡ link-refusal (length (now (bytes .entry))) link ⌝ }
     ensures { λ _. ⌜ now (bytes .exit) ≡ link-written (now (bytes .entry)) link ⌝ }
 {
-    let refusal = link_refusal(bytes.len(), link);
-    if refusal != 0 {
-        return refusal;
+    let number = link_refusal(bytes.len(), link);
+    if number != 0 {
+        return number;
     }
     let word = pack_link(link);
     write_word(bytes, word);
-    refusal
+    number
 }
 
 // The minute of a latest start; that of an open one is the last.

@@ -22,7 +22,7 @@ returns c =
 
 -- no refusal
 accepted : (c : tie.Else1) → link-refusal (length (now (c .before .before .before .args .bytes))) (c .before .before .before .args .link) ≡ 0
-accepted c = sym (c .before .link-refusal .ensures) ∙ c .if1 .left
+accepted c = let e : c .before .link-refusal .result ≡ 0 = omega arith in sym (c .before .link-refusal .ensures) ∙ e
 
 pack-link-requires : tie.Need-pack-link-requires
 pack-link-requires c κs = writable-link _ _ (accepted c) .1

