@@ -1,10 +1,12 @@
-/* The record reader of the booking desk: links and orders from bytes of any number.
+/* The records of the booking desk: links and orders, read from bytes of any number and written into a lent piece of bytes.
  *
- * Link with librecord.a, which `rt staticlib record` writes to target/staticlib/.
- * A refusal has its number in `refusal` and zero in every other field:
+ * Link with librecord.a, which `rt staticlib record` writes to target/staticlib/. Refusals, the first that applies:
  *   12  not exactly 16 bytes (8 for a link)
- *   11  an unknown kind, or a bit that is set where zero is due
- * `refusal` is 0 if the record was read. The pointer must be valid for `count` bytes; no byte past them is read. */
+ *   11  an unknown kind, or a field that is filled and that the kind does not use (for a link that is read, a bit that is
+ *       set where zero is due)
+ *    4  writing only: a figure too large for its field, or a given latest start of 1,073,741,823, which would be read as
+ *       open
+ * The pointer must be valid for `count` bytes; no byte past them is read or written. */
 #ifndef GCR_RECORD_H
 #define GCR_RECORD_H
 
@@ -49,8 +51,19 @@ struct gcr_link_record {
     struct gcr_link link;
 };
 
+/* Reads a record. `refusal` is 0 if it was read; a refusal has its number there and zero in every other field. */
 struct gcr_order_record gcr_read_order(const uint8_t *bytes, size_t count);
 struct gcr_link_record gcr_read_link(const uint8_t *bytes, size_t count);
+
+/* Writes a record over the piece and answers 0; or answers the number of a refusal and leaves the piece as it is. A latest
+ * start is given if `latest_open` is 0; otherwise it is open, and the request's `latest` is not looked at. What a kind does
+ * not use must be zero, `latest_open` too. Whether a desk would take the order is not asked.
+ *
+ * What was written is read back as it was given (an open latest start with its `latest` of 1,000,000,000), and what was
+ * read, given as it came, is written as the same bytes. */
+uint32_t gcr_write_order(uint8_t *bytes, size_t count, uint32_t kind, uint32_t number, struct gcr_request request,
+                         uint32_t latest_open);
+uint32_t gcr_write_link(uint8_t *bytes, size_t count, struct gcr_link link);
 
 #ifdef __cplusplus
 }

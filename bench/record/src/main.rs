@@ -1,9 +1,9 @@
-//! Nanoseconds for each record, read by the proved library and by the independent Rust reader, on the same records in one
-//! run: orders of every kind, one in eight damaged.
+//! Nanoseconds for each record, read and written by the proved library and by the independent Rust reader and writer, on
+//! the same records in one run: orders of every kind, one in eight damaged.
 
 use std::hint::black_box;
 
-use record_tests::{plain, read_link, read_order};
+use record_tests::{plain, read_link, read_order, write_link, write_order, Link, OrderRecord};
 use support::Random;
 use timing::compare;
 
@@ -27,8 +27,10 @@ fn main() {
     let mut random = Random::new(0x5EED);
     let orders: Vec<[u8; 16]> = (0..RECORDS).map(|_| order(&mut random)).collect();
     let links: Vec<[u8; 8]> = (0..RECORDS).map(|_| (random.next() & !((1 << 34) - 1)).to_be_bytes()).collect();
+    let forms: Vec<OrderRecord> = orders.iter().map(|b| form(b)).collect();
+    let lent_links: Vec<Link> = links.iter().map(|b| lent_link(b)).collect();
     compare(
-        "order record",
+        "order record read",
         RECORDS as u32,
         || {
             orders.iter().for_each(|b| {
@@ -42,7 +44,7 @@ fn main() {
         },
     );
     compare(
-        "link record",
+        "link record read",
         RECORDS as u32,
         || {
             links.iter().for_each(|b| {
@@ -55,9 +57,47 @@ fn main() {
             })
         },
     );
+    compare(
+        "order record written",
+        RECORDS as u32,
+        || {
+            forms.iter().for_each(|f| {
+                black_box(write_order(black_box(&mut [0; 16]), black_box(f)));
+            })
+        },
+        || {
+            forms.iter().for_each(|f| {
+                black_box(plain_write_order(black_box(&mut [0; 16]), black_box(f)));
+            })
+        },
+    );
+    compare(
+        "link record written",
+        RECORDS as u32,
+        || {
+            lent_links.iter().for_each(|l| {
+                black_box(write_link(black_box(&mut [0; 8]), black_box(l)));
+            })
+        },
+        || {
+            lent_links.iter().for_each(|l| {
+                black_box(plain_write_link(black_box(&mut [0; 8]), black_box(l)));
+            })
+        },
+    );
 }
 
-// The independent reader is called as the library is: through a call, and not inlined here.
+// What is lent to the writer: what the bytes hold, or for damaged ones a form that is refused.
+fn form(bytes: &[u8; 16]) -> OrderRecord {
+    OrderRecord { refusal: 0, ..plain::read_order(bytes) }
+}
+
+fn lent_link(bytes: &[u8; 8]) -> Link {
+    let read = plain::read_link(bytes);
+    Link { from: read.from, to: read.to, capacity: read.capacity }
+}
+
+// The independent reader and writer are called as the library is: through a call, and not inlined here.
 #[inline(never)]
 fn plain_order(bytes: &[u8]) -> record_tests::OrderRecord {
     plain::read_order(bytes)
@@ -66,4 +106,14 @@ fn plain_order(bytes: &[u8]) -> record_tests::OrderRecord {
 #[inline(never)]
 fn plain_link(bytes: &[u8]) -> record_tests::LinkRecord {
     plain::read_link(bytes)
+}
+
+#[inline(never)]
+fn plain_write_order(bytes: &mut [u8], order: &OrderRecord) -> u32 {
+    plain::write_order(bytes, order)
+}
+
+#[inline(never)]
+fn plain_write_link(bytes: &mut [u8], link: &Link) -> u32 {
+    plain::write_link(bytes, link)
 }
