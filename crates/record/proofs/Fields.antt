@@ -1,12 +1,10 @@
 -- A field of a number of two words, from the words alone: in the first, in the second, or across the two.
 use mathlib.Core.Path.{_≡_, sym, _∙_, ap}
-use Prim.Native.Nat.{ℕ, _+_, _*_, _/_, _%_, _^_, _≤_, _<_}
+use Prim.Native.Nat.{ℕ, _+_, _*_, _/_, _%_, _^_, _<_}
 use native.Mathlib.Nat.{mul-assoc, mul-add-div-right, div-one, mod-lt}
 use native.Mathlib.Omega.{arith}
 use lib.Pow.{pow-add, pow-pos, shr-shr, shr-lt, high, low, field, mod-mod-pow, mod-pow-add, shr-mod}
 use Rattle.units.specs.Lists.{sum}
-use Rattle.record.specs.declared.OrderFields.{OrderFields}
-use Rattle.record.specs.declared.LinkFields.{LinkFields}
 use Rattle.record.specs.Layout.{cut, order-widths, link-widths}
 use Rattle.record.specs.Records.{order-fields, link-fields}
 

@@ -2,7 +2,7 @@
 -- cut. Bytes are fields too, of 8 bits each, so that it serves the records and the bytes alike.
 use mathlib.Core.Path.{_≡_, refl, sym, _∙_, ap, ap₂}
 use mathlib.Core.List.{List, [], _∷_, _++_}
-use mathlib.Core.Bool.{true, _&&_, and-eq-true-iff}
+use mathlib.Core.Bool.{true, and-eq-true-iff}
 use Prim.Native.Nat.{ℕ, zero, suc, _+_, _*_, _/_, _%_, _^_, _≤_, _<_}
 use native.Mathlib.Nat.{add-assoc, add-comm, zero-add, zero-mul, add-mul, mul-assoc, mod-one, mod-eq-of-lt, mul-le-mul-right, mod-lt, suc-mul, pow-suc, mul-comm}
 use native.Mathlib.Omega.{arith}

@@ -15,7 +15,7 @@ use Rattle.record.specs.declared.OrderRead.the-variants as orders
 use Rattle.record.specs.declared.OrderRecord.{OrderRecord}
 use Rattle.record.specs.Layout.{big-endian, cut, order-widths}
 use Rattle.record.specs.Records.{cancel, clock, offer, unknown, kind-of, uses, clear, behind-kind, if-passed, order-fields, latest-of, wish-of, order-of, order-from, order-read}
-use Rattle.record.specs.Forms.{taken}
+use Rattle.record.specs.Forms.{is-order}
 use Rattle.record.specs.Values.{open-flag, request-of, plain-values, order-values}
 
 -- the fields of the record that the bytes make
@@ -36,7 +36,7 @@ Wrong f = (kind-of (f .kind) ≡ unknown) ⊎ (clear (uses (kind-of (f .kind))) 
 
 -- what the fields alone decide: they are an order and handed back, or they are wrong and refused
 abbrev pub Judged : OrderFields → OrderRead → Type 0
-Judged f r = ((Wrong f → ⊥) × (order-values r ≡ as-bits f) × (taken r ≡ true)) ⊎ (Wrong f × (r ≡ orders.Refused 11))
+Judged f r = ((Wrong f → ⊥) × (order-values r ≡ as-bits f) × (is-order r ≡ true)) ⊎ (Wrong f × (r ≡ orders.Refused 11))
 
 -- a passed test before another: the field is zero, and the other passes
 next-zero : (x : ℕ) (b : Bool) → (eqb x 0 && b) ≡ true → (x ≡ 0) × (b ≡ true)
@@ -127,14 +127,14 @@ bits-refused bytes = ((λ e. there (eqb (length bytes) 16) refl e (decided (fiel
     back l w (inr j) = ap (λ r. order-values r .refusal) (sized bytes l ∙ j .1)
 
 -- an order that is not refused is read, and handed back as its bits say
-accepted : (bytes : List ℕ) → refusal-of bytes ≡ 0 → (order-values (order-read bytes) ≡ as-bits (fields-of bytes)) × (taken (order-read bytes) ≡ true)
+accepted : (bytes : List ℕ) → refusal-of bytes ≡ 0 → (order-values (order-read bytes) ≡ as-bits (fields-of bytes)) × (is-order (order-read bytes) ≡ true)
 accepted bytes e = by (eqb (length bytes) 16) refl (decided (fields-of bytes))
   where
     by : (t : Bool)
         → eqb (length bytes) 16 ≡ t
         → Judged (fields-of bytes) (order-from (fields-of bytes))
-        → (order-values (order-read bytes) ≡ as-bits (fields-of bytes)) × (taken (order-read bytes) ≡ true)
-    by true q (inl g) = let l = sized bytes (eqb-true (length bytes) 16 q) in (ap (λ r. order-values r) l ∙ g .1, ap (λ r. taken r) l ∙ g .2)
+        → (order-values (order-read bytes) ≡ as-bits (fields-of bytes)) × (is-order (order-read bytes) ≡ true)
+    by true q (inl g) = let l = sized bytes (eqb-true (length bytes) 16 q) in (ap (λ r. order-values r) l ∙ g .1, ap (λ r. is-order r) l ∙ g .2)
     by true q (inr w) =
         let z : _≡_ {A = ℕ} 0 11 = sym e ∙ ap (λ r. order-values r .refusal) (sized bytes (eqb-true (length bytes) 16 q) ∙ w .1) in
         absurd (omega arith)
@@ -145,8 +145,8 @@ accepted bytes e = by (eqb (length bytes) 16) refl (decided (fields-of bytes))
 pub accepted-as-bits : (bytes : List ℕ) → refusal-of bytes ≡ 0 → order-values (order-read bytes) ≡ as-bits (fields-of bytes)
 accepted-as-bits bytes e = accepted bytes e .0
 
-pub accepted-taken : (bytes : List ℕ) → refusal-of bytes ≡ 0 → taken (order-read bytes) ≡ true
-accepted-taken bytes e = accepted bytes e .1
+pub accepted-is-order : (bytes : List ℕ) → refusal-of bytes ≡ 0 → is-order (order-read bytes) ≡ true
+accepted-is-order bytes e = accepted bytes e .1
 
 -- a refusal hands back zero fields
 pub refused-is-zero : (bytes : List ℕ) (k : ℕ) → order-read bytes ≡ orders.Refused k → order-values (order-read bytes) ≡ plain-values k 0 0 0

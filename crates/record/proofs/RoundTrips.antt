@@ -1,7 +1,7 @@
 -- Document 02: read after write gives the same order, write after an accepted read the same bytes; and the same of links. Over the law
 -- of fields, for whole orders and for what the exported calls are lent and hand back.
 use mathlib.Core.Path.{_≡_, refl, sym, _∙_, ap}
-use mathlib.Core.Logic.{_⊎_, inl, inr}
+use mathlib.Core.Logic.{inl, inr}
 use mathlib.Core.List.{List, [], _∷_}
 use mathlib.Core.Bool.{Bool, true, false, true≢false}
 use Prim.Native.Nat.{ℕ, _<_}
@@ -13,6 +13,7 @@ use Rattle.units.specs.Lists.{sum, All}
 use Rattle.units.specs.declared.Link.{Link}
 use Rattle.record.specs.declared.Latest.{Latest}
 use Rattle.record.specs.declared.Latest.the-variants.{Open, Given}
+use Rattle.record.specs.declared.Wish.{Wish}
 use Rattle.record.specs.declared.Order.{Order}
 use Rattle.record.specs.declared.Order.the-variants.{Book, Cancel, Clock, Offer}
 use Rattle.record.specs.declared.OrderForm.{OrderForm}
@@ -24,10 +25,10 @@ use Rattle.record.specs.declared.LinkRead.the-variants as links
 use Rattle.record.specs.declared.OrderRecord.{OrderRecord}
 use Rattle.record.specs.Layout.{big-endian, cut, pack, fits, spelled, order-widths, link-widths}
 use Rattle.record.specs.Records.{all-ones, clear, order-fields, latest-of, order-from, order-read, link-fields, link-from, link-read}
-use Rattle.record.specs.Forms.{latest-field, tellable, order-form, form-fields, order-figures, taken, order-refusal, order-written, link-figures, link-refusal, link-written}
+use Rattle.record.specs.Forms.{latest-field, tellable, form-fields, order-figures, is-order, order-refusal, order-written, link-figures, link-refusal, link-written}
 use Rattle.record.specs.Values.{open-flag, request-of, latest-minute, latest-from, form-of, values-of, order-values, link-values}
 use Rattle.record.proofs.Packing.{cut-fits, read-back, write-back}
-use Rattle.record.proofs.Reading.{fields-of, as-bits, Judged, decided, sized, missized, accepted-taken}
+use Rattle.record.proofs.Reading.{fields-of, as-bits, Judged, decided, sized, missized, accepted-is-order}
 use Rattle.record.proofs.Written.{Writable, writable, accepted, order-made, writable-link, accepted-link, link-made}
 
 -- each number is a byte
@@ -50,6 +51,17 @@ read-fields piece form e =
     let w = writable (length piece) form e in
     let bytes = spelled 16 (pack order-widths (order-figures (form-fields form))) in
     ap order-read (order-made piece form e) ∙ sized bytes refl ∙ ap (λ fs. order-from (order-fields fs)) (read-back order-widths (order-figures (form-fields form)) 16 refl refl (w .room))
+
+-- a wish that holds its earliest minute and nothing else
+abbrev blank : ℕ → Wish
+blank m = record { from = 0; to = 0; bandwidth = record { 0 = 0 }; duration = record { 0 = 0 }; earliest = record { 0 = m }; latest = Given (record { 0 = 0 }) }
+
+-- the form of an order: zero where its kind uses nothing
+abbrev pub order-form : Order → OrderForm
+order-form (Book number w) = record { kind = 1; number = number; wish = w }
+order-form (Cancel number) = record { kind = 2; number = number; wish = blank 0 }
+order-form (Clock minute) = record { kind = 3; number = 0; wish = blank (minute .0) }
+order-form (Offer w) = record { kind = 4; number = 0; wish = w }
 
 -- read after write gives the same order
 same-from : (o : Order) → tellable (order-form o .wish .latest) ≡ true → order-from (form-fields (order-form o)) ≡ orders.Read o
@@ -75,7 +87,7 @@ values-after-write piece form e = ap order-values (read-fields piece form e) ∙
 
     by : Judged (form-fields form) (order-from (form-fields form)) → order-values (order-from (form-fields form)) ≡ form-values form
     by (inl g) = g .1 ∙ rw (told-back (form .wish .latest) (w .told))
-    by (inr j) = absurd (true≢false (sym (w .known) ∙ ap (λ r. taken r) (j .1)))
+    by (inr j) = absurd (true≢false (sym (w .known) ∙ ap (λ r. is-order r) (j .1)))
 
 -- the form that a reader's values make for the writer
 abbrev pub lent : OrderRecord → OrderForm
@@ -101,7 +113,7 @@ read-form f o e = by (decided f)
         let q : order-form o ≡ lent (as-bits f) = sym (lent-values o) ∙ ap lent (sym (ap order-values e) ∙ g .1) in
         let l = lent-latest (latest-of (f .latest)) in
         (ap form-fields q ∙ rw (l, t .1), ap (λ (x : OrderForm). tellable (x .wish .latest)) q ∙ rw l (t .0))
-    by (inr j) = absurd (true≢false (ap (λ r. taken r) (sym e ∙ j .1)))
+    by (inr j) = absurd (true≢false (ap (λ r. is-order r) (sym e ∙ j .1)))
 
 -- only sixteen bytes are read as an order
 read-sized : (bytes : List ℕ) (o : Order) → order-read bytes ≡ orders.Read o → length bytes ≡ 16
@@ -109,7 +121,7 @@ read-sized bytes o e = by (eqb (length bytes) 16) refl
   where
     by : (t : Bool) → eqb (length bytes) 16 ≡ t → length bytes ≡ 16
     by true q = eqb-true (length bytes) 16 q
-    by false q = absurd (true≢false (ap (λ r. taken r) (sym e ∙ missized bytes (eqb-false (length bytes) 16 q))))
+    by false q = absurd (true≢false (ap (λ r. is-order r) (sym e ∙ missized bytes (eqb-false (length bytes) 16 q))))
 
 -- write after an accepted read gives the same bytes
 pub write-after-read : (piece bytes : List ℕ) (o : Order)
@@ -122,7 +134,7 @@ write-after-read piece bytes o h s e =
     let l = read-sized bytes o e in
     let from : order-from (fields-of bytes) ≡ orders.Read o = sym (sized bytes l) ∙ e in
     let r = read-form (fields-of bytes) o from in
-    let known = ap (λ f. taken (order-from f)) (r .0) ∙ ap (λ x. taken x) from in
+    let known = ap (λ f. is-order (order-from f)) (r .0) ∙ ap (λ x. is-order x) from in
     let room = ap (λ f. fits order-widths (order-figures f)) (r .0) ∙ cut-fits order-widths (big-endian bytes) in
     let free = accepted (length piece) (order-form o) (record { sized = s; known = known; room = room; told = r .1 }) in
     let same = ap (λ k. spelled k (pack order-widths (cut order-widths (big-endian bytes)))) (sym l) ∙ write-back order-widths bytes (rw l refl) h in
@@ -138,7 +150,7 @@ write-after-values piece bytes h s e = by (order-read bytes) refl
   where
     by : (r : OrderRead) → order-read bytes ≡ r → (order-refusal (length piece) (lent (order-values (order-read bytes))) ≡ 0) × (order-written piece (lent (order-values (order-read bytes))) ≡ bytes)
     by (orders.Read o) q = rw (q, lent-values o) (write-after-read piece bytes o h s q)
-    by (orders.Refused k) q = absurd (true≢false (sym (accepted-taken bytes e) ∙ ap (λ r. taken r) q))
+    by (orders.Refused k) q = absurd (true≢false (sym (accepted-is-order bytes e) ∙ ap (λ r. is-order r) q))
 
 -- the same of links
 pub link-read-after-write : (piece : List ℕ) (l : Link) → link-refusal (length piece) l ≡ 0 → link-read (link-written piece l) ≡ links.Read l

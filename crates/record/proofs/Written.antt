@@ -1,8 +1,8 @@
 -- What the writer refuses and what it leaves: the definition taken apart.
-use mathlib.Core.Path.{_≡_, refl, sym, _∙_, ap}
+use mathlib.Core.Path.{_≡_, refl}
 use mathlib.Core.Logic.{_≢_}
 use mathlib.Core.List.{List}
-use mathlib.Core.Bool.{Bool, true, false, _&&_, and-eq-true-iff}
+use mathlib.Core.Bool.{Bool, true, false, and-eq-true-iff}
 use Prim.Native.Nat.{ℕ}
 use native.Mathlib.Omega.{arith}
 use lib.Dec.{eqb}
@@ -12,7 +12,7 @@ use Rattle.units.specs.declared.Link.{Link}
 use Rattle.record.specs.declared.OrderForm.{OrderForm}
 use Rattle.record.specs.Layout.{pack, fits, spelled, order-widths, link-widths}
 use Rattle.record.specs.Records.{if-passed, order-from}
-use Rattle.record.specs.Forms.{tellable, form-fields, order-figures, taken, form-fits, order-refusal, order-written, link-figures, link-refusal, link-written}
+use Rattle.record.specs.Forms.{tellable, form-fields, order-figures, is-order, form-fits, order-refusal, order-written, link-figures, link-refusal, link-written}
 
 -- no refusal behind a test: it passes, and nothing behind it refuses
 passed : (t : Bool) (x k : ℕ) → k ≢ 0 → if-passed t x k ≡ 0 → (t ≡ true) × (x ≡ 0)
@@ -23,7 +23,7 @@ passed false x k n e = absurd (n e)
 -- is read back
 pub record Writable (count : ℕ) (form : OrderForm) : Type 0 where
   pub sized : count ≡ 16
-  pub known : taken (order-from (form-fields form)) ≡ true
+  pub known : is-order (order-from (form-fields form)) ≡ true
   pub room : fits order-widths (order-figures (form-fields form)) ≡ true
   pub told : tellable (form .wish .latest) ≡ true
 
@@ -31,7 +31,7 @@ pub writable : (count : ℕ) (form : OrderForm) → order-refusal count form ≡
 unfolding order-refusal form-fits
 writable count form e =
     let a = passed (eqb count 16) _ 12 (λ z. omega arith) e in
-    let b = passed (taken (order-from (form-fields form))) _ 11 (λ z. omega arith) (a .1) in
+    let b = passed (is-order (order-from (form-fields form))) _ 11 (λ z. omega arith) (a .1) in
     let c = passed (form-fits form) 0 4 (λ z. omega arith) (b .1) in
     let d = and-eq-true-iff (fits order-widths (order-figures (form-fields form))) (tellable (form .wish .latest)) .0 (c .0) in
     record { sized = eqb-true count 16 (a .0); known = b .0; room = d .0; told = d .1 }

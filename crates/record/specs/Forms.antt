@@ -7,9 +7,6 @@ use lib.ListN.{length}
 use Rattle.units.specs.declared.Link.{Link}
 use Rattle.record.specs.declared.Latest.{Latest}
 use Rattle.record.specs.declared.Latest.the-variants.{Open, Given}
-use Rattle.record.specs.declared.Wish.{Wish}
-use Rattle.record.specs.declared.Order.{Order}
-use Rattle.record.specs.declared.Order.the-variants.{Book, Cancel, Clock, Offer}
 use Rattle.record.specs.declared.OrderForm.{OrderForm}
 use Rattle.record.specs.declared.OrderRead.{OrderRead}
 use Rattle.record.specs.declared.OrderRead.the-variants as orders
@@ -26,21 +23,10 @@ abbrev pub latest-field : Latest → ℕ
 latest-field Open = all-ones
 latest-field (Given m) = m .0
 
--- so no given one is
+-- so one that is given as all ones cannot be told: it would be read as open
 abbrev pub tellable : Latest → Bool
 tellable Open = true
 tellable (Given m) = not (eqb (m .0) all-ones)
-
--- a wish that holds its earliest minute and nothing else
-abbrev pub blank : ℕ → Wish
-blank m = record { from = 0; to = 0; bandwidth = record { 0 = 0 }; duration = record { 0 = 0 }; earliest = record { 0 = m }; latest = Given (record { 0 = 0 }) }
-
--- the form of an order: zero where its kind uses nothing
-abbrev pub order-form : Order → OrderForm
-order-form (Book number w) = record { kind = 1; number = number; wish = w }
-order-form (Cancel number) = record { kind = 2; number = number; wish = blank 0 }
-order-form (Clock minute) = record { kind = 3; number = 0; wish = blank (minute .0) }
-order-form (Offer w) = record { kind = 4; number = 0; wish = w }
 
 -- the figures of a form by name
 abbrev pub form-fields : OrderForm → OrderFields
@@ -59,10 +45,10 @@ form-fields form = record {
 abbrev pub order-figures : OrderFields → List ℕ
 order-figures f = f .kind ∷ behind-kind f
 
--- whether the reader takes fields for an order: a known kind, and no field filled that it does not use
-abbrev pub taken : OrderRead → Bool
-taken (orders.Read order) = true
-taken (orders.Refused number) = false
+-- whether the reader finds an order: a known kind, and no field filled that it does not use
+abbrev pub is-order : OrderRead → Bool
+is-order (orders.Read order) = true
+is-order (orders.Refused number) = false
 
 -- every figure has room in its field
 unfoldable pub form-fits : OrderForm → Bool
@@ -70,7 +56,7 @@ form-fits form = fits order-widths (order-figures (form-fields form)) && tellabl
 
 -- the refusal of a form for a piece of so many bytes, 0 if there is none
 unfoldable pub order-refusal : ℕ → OrderForm → ℕ
-order-refusal count form = if-passed (eqb count order-bytes) (if-passed (taken (order-from (form-fields form))) (if-passed (form-fits form) 0 bad-figure) bad-bits) bad-length
+order-refusal count form = if-passed (eqb count order-bytes) (if-passed (is-order (order-from (form-fields form))) (if-passed (form-fits form) 0 bad-figure) bad-bits) bad-length
 
 -- the piece afterwards: the record, or untouched
 unfoldable pub order-written : List ℕ → OrderForm → List ℕ

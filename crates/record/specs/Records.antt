@@ -4,10 +4,6 @@ use mathlib.Core.Bool.{Bool, true, false, _&&_, _||_}
 use Prim.Native.Nat.{ℕ, _-_, _^_}
 use lib.Dec.{eqb}
 use lib.ListN.{length, getD}
-use Rattle.units.specs.declared.Minute.{Minute}
-use Rattle.units.specs.declared.Link.{Link}
-use Rattle.units.specs.declared.Request.{Request}
-use Rattle.units.specs.Limits.{last-minute}
 use Rattle.record.specs.declared.Latest.{Latest}
 use Rattle.record.specs.declared.Latest.the-variants.{Open, Given}
 use Rattle.record.specs.declared.Wish.{Wish}
@@ -19,8 +15,6 @@ use Rattle.record.specs.declared.LinkRead.{LinkRead}
 use Rattle.record.specs.declared.LinkRead.the-variants as links
 use Rattle.record.specs.declared.OrderFields.{OrderFields}
 use Rattle.record.specs.declared.LinkFields.{LinkFields}
-use Rattle.record.specs.declared.OrderRecord.{OrderRecord}
-use Rattle.record.specs.declared.LinkRecord.{LinkRecord}
 use Rattle.record.specs.Layout.{big-endian, cut, order-widths, link-widths, order-bytes, link-bytes}
 
 -- refusal numbers: a bit set where zero is due or an unknown kind; a wrong number of bytes

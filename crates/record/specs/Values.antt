@@ -3,7 +3,6 @@
 use Prim.Native.Nat.{ℕ}
 use lib.Dec.{eqb}
 use Rattle.units.specs.declared.Minute.{Minute}
-use Rattle.units.specs.declared.Link.{Link}
 use Rattle.units.specs.declared.Request.{Request}
 use Rattle.units.specs.Limits.{last-minute}
 use Rattle.record.specs.declared.Latest.{Latest}

@@ -20,7 +20,7 @@ ghost use Prim.Native.Nat.{_+_, _*_, _^_, _≤_, _<_};
 ghost use lib.Dec.{ltb};
 ghost use lib.ListN.{length, drop};
 ghost use Rattle.record.specs.Layout.{pack, fits, spelled, order-widths, link-widths};
-ghost use Rattle.record.specs.Forms.{latest-field, tellable, form-fields, order-figures, taken, form-fits, order-refusal, link-figures, link-refusal};
+ghost use Rattle.record.specs.Forms.{latest-field, tellable, form-fields, order-figures, is-order, form-fits, order-refusal, link-figures, link-refusal};
 
 // The first and the last eight bytes of an order as numbers.
 pub struct Words {
@@ -100,9 +100,9 @@ fn form_fits(form: OrderForm) -> bool
     order_fits(form_fields(form)) && tellable(latest)
 }
 
-// Whether the reader took fields for an order.
-fn taken(read: OrderRead) -> bool
-    ensures { λ r. ⌜ r ≡ taken read ⌝ }
+// Whether what was read is an order, and not a refusal.
+fn is_order(read: OrderRead) -> bool
+    ensures { λ r. ⌜ r ≡ is-order read ⌝ }
 {
     match read {
         OrderRead::Read(_) => true,
@@ -118,7 +118,7 @@ pub(crate) fn order_refusal(count: usize, form: OrderForm) -> u32
     if count != ORDER_BYTES {
         return BAD_LENGTH;
     }
-    if !taken(order_from(form_fields(form))) {
+    if !is_order(order_from(form_fields(form))) {
         return BAD_BITS;
     }
     if !form_fits(form) {

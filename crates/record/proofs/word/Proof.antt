@@ -3,7 +3,7 @@ use mathlib.Core.Path.{_≡_, refl, sym, _∙_}
 use Prim.Native.Nat.{_+_, _-_, _^_, _≤_, _<_}
 use denote.Ref.{now}
 use native.Mathlib.Omega.{arith}
-use lib.ListN.{length, take, drop, getD}
+use lib.ListN.{take, drop, getD}
 use Rattle.record.specs.Layout.{big-endian}
 use Rattle.record.proofs.Words.{next-number, next-below, short}
 use Rattle.record.proofs.word.Statement.{statement}

@@ -1,6 +1,6 @@
 -- `write_link` meets its contract: a refusal leaves the piece, and a link that is not refused is written as its word.
 use mathlib.Core.Path.{_≡_, sym, _∙_, ap}
-use mathlib.Core.List.{[], _++_, append-nil}
+use mathlib.Core.List.{[], append-nil}
 use native.Mathlib.Omega.{arith}
 use lib.ListN.{length, drop}
 use lib.Seq.{drop-length}

@@ -2,7 +2,7 @@
 use mathlib.Core.Path.{_≡_, sym, _∙_, ap}
 use borrow.Author.Tests.{eq-eqb, ne-eqb, not-true, not-false}
 use Rattle.record.specs.Records.{order-from}
-use Rattle.record.specs.Forms.{form-fields, taken, order-refusal}
+use Rattle.record.specs.Forms.{form-fields, is-order, order-refusal}
 use borrow.Author.Needs.{needs}
 use Rattle.record.proofs.writing.order_refusal.Statement.{statement}
 use Rattle.record.proofs.writing.order_refusal.Tie as tie
@@ -17,16 +17,16 @@ form-fields-requires c κs = search needs
 order-from-requires : tie.Need-order-from-requires
 order-from-requires c κs = search needs
 
-taken-requires : tie.Need-taken-requires
-taken-requires c κs = search needs
+is-order-requires : tie.Need-is-order-requires
+is-order-requires c κs = search needs
 
 -- what the reader says of the form's fields
-judged : (c : tie.After-taken) → c .taken .result ≡ taken (order-from (form-fields (c .before .before .before .before .args .form)))
-judged c = c .taken .ensures ∙ ap (λ r. taken r) (c .before .order-from .ensures ∙ ap (λ f. order-from f) (c .before .before .form-fields .ensures))
+judged : (c : tie.After-is-order) → c .is-order .result ≡ is-order (order-from (form-fields (c .before .before .before .before .args .form)))
+judged c = c .is-order .ensures ∙ ap (λ r. is-order r) (c .before .order-from .ensures ∙ ap (λ f. order-from f) (c .before .before .form-fields .ensures))
 
 returns-2 : tie.Need-returns-2
 unfolding order-refusal
-returns-2 c = rw (eq-eqb _ _ (c .before .before .before .before .if1 .left), sym (judged (c .before)), not-true (c .before .taken .result) (c .if2 .taken))
+returns-2 c = rw (eq-eqb _ _ (c .before .before .before .before .if1 .left), sym (judged (c .before)), not-true (c .before .is-order .result) (c .if2 .taken))
 
 form-fits-requires : tie.Need-form-fits-requires
 form-fits-requires c κs = search needs
@@ -35,13 +35,13 @@ returns-3 : tie.Need-returns-3
 unfolding order-refusal
 returns-3 c =
     let t = c .before .before .before in
-    rw (eq-eqb _ _ (t .before .before .before .if1 .left), sym (judged t), not-false (t .taken .result) (c .before .before .if2 .left), sym (c .before .form-fits .ensures), not-true (c .before .form-fits .result) (c .if3 .taken))
+    rw (eq-eqb _ _ (t .before .before .before .if1 .left), sym (judged t), not-false (t .is-order .result) (c .before .before .if2 .left), sym (c .before .form-fits .ensures), not-true (c .before .form-fits .result) (c .if3 .taken))
 
 returns-4 : tie.Need-returns-4
 unfolding order-refusal
 returns-4 c =
     let t = c .before .before .before in
-    rw (eq-eqb _ _ (t .before .before .before .if1 .left), sym (judged t), not-false (t .taken .result) (c .before .before .if2 .left), sym (c .before .form-fits .ensures), not-false (c .before .form-fits .result) (c .if3 .left))
+    rw (eq-eqb _ _ (t .before .before .before .if1 .left), sym (judged t), not-false (t .is-order .result) (c .before .before .if2 .left), sym (c .before .form-fits .ensures), not-false (c .before .form-fits .result) (c .if3 .left))
 
 pub order-refusal-spec : {M : Type 1} → statement M
 order-refusal-spec =
@@ -50,7 +50,7 @@ order-refusal-spec =
     returns
     form-fields-requires
     order-from-requires
-    taken-requires
+    is-order-requires
     returns-2
     form-fits-requires
     returns-3

@@ -65,7 +65,7 @@ returns : tie.Need-returns
 returns c =
     let p = c .before .before .before .before .before in
     let f = p .before .before .before .before .before .args .f in
-    let high : p .push4 .result ≡ ahead f = rw (p .push4 .ensures, p .before .push3 .ensures, p .before .before .push2 .ensures, p .before .before .before .push .ensures) refl in
+    let high : p .push4 .result ≡ ahead f = rw (p .push4 .ensures, p .before .push3 .ensures, p .before .before .push2 .ensures, p .before .before .before .push .ensures) (refl {a = ahead f}) in
     let low = c .push7 .ensures ∙ ap (λ x. x * 2 ^ 30 + f .latest) (c .before .before .before .push5 .ensures) in
     across (ahead f) (f .duration) (f .earliest) (f .latest) _ _ (c .before .push6 .ensures ∙ ap (λ x. x * 2 ^ 16 + f .duration / 2 ^ 4) high) low ∙ sym (whole f)
 
