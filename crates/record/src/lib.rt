@@ -55,6 +55,19 @@ const OFFER: u32 = 4;
 // A latest start of all ones is open.
 const OPEN: u32 = 1073741823;
 
+// How many values the fields of a record can hold, by document 01's widths.
+const KINDS: u64 = 1 << 4;
+
+const NUMBERS: u64 = 1 << 14;
+
+const NODES: u64 = 1 << 5;
+
+const BANDWIDTHS: u64 = 1 << 20;
+
+const DURATIONS: u64 = 1 << 20;
+
+const MINUTES: u64 = 1 << 30;
+
 // The latest start of a request: open, or the minute that is given.
 pub enum Latest {
     Open,
@@ -156,13 +169,13 @@ fn cut_order(high: u64, low: u64) -> OrderFields
 {
     OrderFields {
         kind: (high >> 60) as u32,
-        number: ((high >> 46) % (1 << 14)) as u32,
-        from: ((high >> 41) % (1 << 5)) as u32,
-        to: ((high >> 36) % (1 << 5)) as u32,
-        bandwidth: ((high >> 16) % (1 << 20)) as u32,
+        number: ((high >> 46) % NUMBERS) as u32,
+        from: ((high >> 41) % NODES) as u32,
+        to: ((high >> 36) % NODES) as u32,
+        bandwidth: ((high >> 16) % BANDWIDTHS) as u32,
         duration: (high % (1 << 16) * (1 << 4) + (low >> 60)) as u32,
-        earliest: ((low >> 30) % (1 << 30)) as u32,
-        latest: (low % (1 << 30)) as u32,
+        earliest: ((low >> 30) % MINUTES) as u32,
+        latest: (low % MINUTES) as u32,
     }
 }
 
@@ -172,8 +185,8 @@ fn cut_link(bits: u64) -> LinkFields
 {
     LinkFields {
         from: (bits >> 59) as u32,
-        to: ((bits >> 54) % (1 << 5)) as u32,
-        capacity: ((bits >> 34) % (1 << 20)) as u32,
+        to: ((bits >> 54) % NODES) as u32,
+        capacity: ((bits >> 34) % BANDWIDTHS) as u32,
         zero: bits % (1 << 34),
     }
 }

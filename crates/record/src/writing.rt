@@ -3,8 +3,14 @@
 use crate::BAD_BITS;
 use crate::BAD_FIGURE;
 use crate::BAD_LENGTH;
+use crate::BANDWIDTHS;
+use crate::DURATIONS;
+use crate::KINDS;
 use crate::LINK_BYTES;
 use crate::Latest;
+use crate::MINUTES;
+use crate::NODES;
+use crate::NUMBERS;
 use crate::OPEN;
 use crate::ORDER_BYTES;
 use crate::OrderFields;
@@ -67,28 +73,32 @@ pub(crate) fn form_fields(form: OrderForm) -> OrderFields
 }
 
 // Whether a field is below a size, and those behind it fit.
-fn below(field: u32, size: u32, behind: bool) -> bool
+fn below(field: u32, size: u64, behind: bool) -> bool
     ensures { λ r. ⌜ r ≡ (ltb field size && behind) ⌝ }
 {
-    field < size && behind
+    (field as u64) < size && behind
 }
 
 // Whether no field of an order is too large for its width.
 fn order_fits(f: OrderFields) -> bool
     ensures { λ r. ⌜ r ≡ fits order-widths (order-figures f) ⌝ }
 {
-    let window = below(f.earliest, 1 << 30, below(f.latest, 1 << 30, true));
-    let asked = below(f.bandwidth, 1 << 20, below(f.duration, 1 << 20, window));
-    let routed = below(f.from, 1 << 5, below(f.to, 1 << 5, asked));
-    below(f.kind, 1 << 4, below(f.number, 1 << 14, routed))
+    let window = below(f.earliest, MINUTES, below(f.latest, MINUTES, true));
+    let asked = below(
+        f.bandwidth,
+        BANDWIDTHS,
+        below(f.duration, DURATIONS, window),
+    );
+    let routed = below(f.from, NODES, below(f.to, NODES, asked));
+    below(f.kind, KINDS, below(f.number, NUMBERS, routed))
 }
 
 // Whether no field of a link is too large for its width.
 fn link_fits(link: Link) -> bool
     ensures { λ r. ⌜ r ≡ fits link-widths (link-figures link) ⌝ }
 {
-    let wide = below(link.capacity.0, 1 << 20, true);
-    below(link.from, 1 << 5, below(link.to, 1 << 5, wide))
+    let wide = below(link.capacity.0, BANDWIDTHS, true);
+    below(link.from, NODES, below(link.to, NODES, wide))
 }
 
 // Whether the figures of a form have room in their fields, and its latest start is read back as it is.
@@ -154,13 +164,13 @@ pub(crate) fn pack_order(f: OrderFields) -> Words
     requires { ⌜ fits order-widths (order-figures f) ≡ true ⌝ }
     ensures { λ r. ⌜ r .high * 2 ^ 64 + r .low ≡ pack order-widths (order-figures f) ⌝ }
 {
-    let numbered = push(f.kind as u64, 1 << 14, f.number);
-    let routed = push(push(numbered, 1 << 5, f.from), 1 << 5, f.to);
-    let wide = push(routed, 1 << 20, f.bandwidth);
-    let timed = push((f.duration % (1 << 4)) as u64, 1 << 30, f.earliest);
+    let numbered = push(f.kind as u64, NUMBERS, f.number);
+    let routed = push(push(numbered, NODES, f.from), NODES, f.to);
+    let wide = push(routed, BANDWIDTHS, f.bandwidth);
+    let timed = push((f.duration % (1 << 4)) as u64, MINUTES, f.earliest);
     Words {
         high: push(wide, 1 << 16, f.duration >> 4),
-        low: push(timed, 1 << 30, f.latest),
+        low: push(timed, MINUTES, f.latest),
     }
 }
 
@@ -169,8 +179,8 @@ pub(crate) fn pack_link(link: Link) -> u64
     requires { ⌜ fits link-widths (link-figures link) ≡ true ⌝ }
     ensures { λ r. ⌜ r ≡ pack link-widths (link-figures link) ⌝ }
 {
-    let routed = push(link.from as u64, 1 << 5, link.to);
-    push(routed, 1 << 20, link.capacity.0) * (1 << 34)
+    let routed = push(link.from as u64, NODES, link.to);
+    push(routed, BANDWIDTHS, link.capacity.0) * (1 << 34)
 }
 
 // Writes a word over the first eight bytes of the part, the most significant byte first.
