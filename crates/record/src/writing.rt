@@ -84,11 +84,8 @@ fn order_fits(f: OrderFields) -> bool
     ensures { λ r. ⌜ r ≡ fits order-widths (order-figures f) ⌝ }
 {
     let window = below(f.earliest, MINUTES, below(f.latest, MINUTES, true));
-    let asked = below(
-        f.bandwidth,
-        BANDWIDTHS,
-        below(f.duration, DURATIONS, window),
-    );
+    let timed = below(f.duration, DURATIONS, window);
+    let asked = below(f.bandwidth, BANDWIDTHS, timed);
     let routed = below(f.from, NODES, below(f.to, NODES, asked));
     below(f.kind, KINDS, below(f.number, NUMBERS, routed))
 }
