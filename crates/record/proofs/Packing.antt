@@ -4,8 +4,9 @@ use mathlib.Core.Path.{_≡_, refl, sym, _∙_, ap, ap₂}
 use mathlib.Core.List.{List, [], _∷_, _++_}
 use mathlib.Core.Bool.{true, and-eq-true-iff}
 use Prim.Native.Nat.{ℕ, zero, suc, _+_, _*_, _/_, _%_, _^_, _≤_, _<_}
-use native.Mathlib.Nat.{add-assoc, add-comm, zero-add, zero-mul, add-mul, mul-assoc, mod-one, mod-eq-of-lt, mul-le-mul-right, mod-lt, suc-mul, pow-suc, mul-comm}
+use native.Mathlib.Nat.{add-assoc, add-comm, zero-add, zero-mul, add-mul, mul-assoc, mod-one, mod-eq-of-lt, mod-lt, pow-suc, mul-comm}
 use native.Mathlib.Omega.{arith}
+use lib.Arith.{digits-lt}
 use lib.Dec.{ltb}
 use lib.ListN.{length, replicate, length-replicate}
 use lib.Pow.{pow-add, pow-pos, high, mod-pow-add}
@@ -24,11 +25,7 @@ pub pack-below : (ws fs : List ℕ) → fits ws fs ≡ true → pack ws fs < 2 ^
 unfolding pack sum
 pack-below [] fs e = omega arith
 pack-below (w ∷ ws) [] e = pow-pos (w + sum ws)
-pack-below (w ∷ ws) (f ∷ fs) e =
-    let h = first-fits w ws f fs e in
-    let low = pack-below ws fs (h .1) in
-    let room : suc f * 2 ^ sum ws ≤ 2 ^ w * 2 ^ sum ws = mul-le-mul-right (2 ^ sum ws) (h .0) in
-    rw (pow-add 2 w (sum ws)) (omega (arith, low, rw suc-mul at room))
+pack-below (w ∷ ws) (f ∷ fs) e = let h = first-fits w ws f fs e in rw (pow-add 2 w (sum ws)) (digits-lt (h .0) (pack-below ws fs (h .1)))
 
 -- what stands above the fields changes none of them
 above : (ws : List ℕ) (j k hi lo : ℕ) → k ≡ j + sum ws → lo < 2 ^ k → cut ws (hi * 2 ^ k + lo) ≡ cut ws lo
@@ -96,7 +93,11 @@ unfolding big-endian pack
 packed-bytes [] = refl
 packed-bytes (b ∷ bs) = ap₂ (λ x y. b * x + y) (byte-powers (length bs)) (packed-bytes bs)
 
-bytes-fit : (bytes : List ℕ) → All (λ b. b < 256) bytes → fits (replicate (length bytes) 8) bytes ≡ true
+-- each number is a byte
+abbrev pub Bytes : List ℕ → Type 0
+Bytes = All (λ b. b < 256)
+
+bytes-fit : (bytes : List ℕ) → Bytes bytes → fits (replicate (length bytes) 8) bytes ≡ true
 unfolding fits
 bytes-fit [] h = refl
 bytes-fit (b ∷ bs) h = rw (lt-ltb b 256 (h .0)) (bytes-fit bs (h .1))
@@ -109,14 +110,14 @@ spelled-number count n h =
     ∙ pack-cut (replicate count 8) n
     ∙ mod-eq-of-lt h
 
-number-spelled : (bytes : List ℕ) → All (λ b. b < 256) bytes → spelled (length bytes) (big-endian bytes) ≡ bytes
+number-spelled : (bytes : List ℕ) → Bytes bytes → spelled (length bytes) (big-endian bytes) ≡ bytes
 number-spelled bytes h = ap (spelled (length bytes)) (packed-bytes bytes) ∙ cut-pack (replicate (length bytes) 8) bytes (sym (length-replicate (length bytes) 8)) (bytes-fit bytes h)
 
 -- a record of any layout that fills its bytes: written and read, and read and written
 pub read-back : (ws fs : List ℕ) (count : ℕ) → sum ws ≡ sum (replicate count 8) → length fs ≡ length ws → fits ws fs ≡ true → cut ws (big-endian (spelled count (pack ws fs))) ≡ fs
 read-back ws fs count s l e = ap (cut ws) (spelled-number count (pack ws fs) (rw (← s) (pack-below ws fs e))) ∙ cut-pack ws fs l e
 
-pub write-back : (ws bytes : List ℕ) → sum ws ≡ sum (replicate (length bytes) 8) → All (λ b. b < 256) bytes → spelled (length bytes) (pack ws (cut ws (big-endian bytes))) ≡ bytes
+pub write-back : (ws bytes : List ℕ) → sum ws ≡ sum (replicate (length bytes) 8) → Bytes bytes → spelled (length bytes) (pack ws (cut ws (big-endian bytes))) ≡ bytes
 write-back ws bytes s h =
     let below : big-endian bytes < 2 ^ sum ws = rw (packed-bytes bytes, s) (pack-below (replicate (length bytes) 8) bytes (bytes-fit bytes h)) in
     ap (spelled (length bytes)) (pack-cut ws (big-endian bytes) ∙ mod-eq-of-lt below) ∙ number-spelled bytes h

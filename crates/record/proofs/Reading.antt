@@ -14,8 +14,7 @@ use Rattle.record.specs.declared.OrderRead.{OrderRead}
 use Rattle.record.specs.declared.OrderRead.the-variants as orders
 use Rattle.record.specs.declared.OrderRecord.{OrderRecord}
 use Rattle.record.specs.Layout.{big-endian, cut, order-widths}
-use Rattle.record.specs.Records.{cancel, clock, offer, unknown, kind-of, uses, clear, behind-kind, if-passed, order-fields, latest-of, wish-of, order-of, order-from, order-read}
-use Rattle.record.specs.Forms.{is-order}
+use Rattle.record.specs.Records.{cancel, clock, offer, unknown, kind-of, uses, clear, behind-kind, if-passed, order-fields, latest-of, wish-of, order-of, order-from, order-read, is-order}
 use Rattle.record.specs.Values.{open-flag, request-of, plain-values, order-values}
 
 -- the fields of the record that the bytes make

@@ -1,19 +1,20 @@
 -- Document 02: read after write gives the same order, write after an accepted read the same bytes; and the same of links. Over the law
 -- of fields, for whole orders and for what the exported calls are lent and hand back.
 use mathlib.Core.Path.{_≡_, refl, sym, _∙_, ap}
-use mathlib.Core.Logic.{inl, inr}
+use mathlib.Core.Logic.{_≢_, inl, inr}
 use mathlib.Core.List.{List, [], _∷_}
 use mathlib.Core.Bool.{Bool, true, false, true≢false}
-use Prim.Native.Nat.{ℕ, _<_}
+use Prim.Native.Nat.{ℕ}
 use native.Mathlib.Omega.{arith}
 use lib.Dec.{eqb}
 use lib.ListN.{length}
-use borrow.Author.Tests.{eqb-true, eqb-false, not-true}
-use Rattle.units.specs.Lists.{sum, All}
+use borrow.Author.Tests.{eqb-true, eqb-false, ne-eqb, not-true}
+use Rattle.units.specs.Lists.{sum}
 use Rattle.units.specs.declared.Link.{Link}
+use Rattle.units.specs.declared.Request.{Request}
+use Rattle.units.specs.Limits.{last-minute}
 use Rattle.record.specs.declared.Latest.{Latest}
 use Rattle.record.specs.declared.Latest.the-variants.{Open, Given}
-use Rattle.record.specs.declared.Wish.{Wish}
 use Rattle.record.specs.declared.Order.{Order}
 use Rattle.record.specs.declared.Order.the-variants.{Book, Cancel, Clock, Offer}
 use Rattle.record.specs.declared.OrderForm.{OrderForm}
@@ -24,16 +25,12 @@ use Rattle.record.specs.declared.OrderRead.the-variants as orders
 use Rattle.record.specs.declared.LinkRead.the-variants as links
 use Rattle.record.specs.declared.OrderRecord.{OrderRecord}
 use Rattle.record.specs.Layout.{big-endian, cut, pack, fits, spelled, order-widths, link-widths}
-use Rattle.record.specs.Records.{all-ones, clear, order-fields, latest-of, order-from, order-read, link-fields, link-from, link-read}
-use Rattle.record.specs.Forms.{latest-field, tellable, form-fields, order-figures, is-order, order-refusal, order-written, link-figures, link-refusal, link-written}
-use Rattle.record.specs.Values.{open-flag, request-of, latest-minute, latest-from, form-of, values-of, order-values, link-values}
-use Rattle.record.proofs.Packing.{cut-fits, read-back, write-back}
+use Rattle.record.specs.Records.{all-ones, clear, order-fields, latest-of, order-from, order-read, is-order, link-fields, link-from, link-read}
+use Rattle.record.specs.Forms.{latest-field, tellable, form-fields, latest-from, form-of, order-figures, order-refusal, order-written, link-figures, link-refusal, link-written}
+use Rattle.record.specs.Values.{open-flag, request-of, latest-minute, values-of, order-values, link-values}
+use Rattle.record.proofs.Packing.{Bytes, cut-fits, read-back, write-back}
 use Rattle.record.proofs.Reading.{fields-of, as-bits, Judged, decided, sized, missized, accepted-is-order}
 use Rattle.record.proofs.Written.{Writable, writable, accepted, order-made, writable-link, accepted-link, link-made}
-
--- each number is a byte
-abbrev pub Bytes : List ℕ → Type 0
-Bytes = All (λ b. b < 256)
 
 -- a latest start that can be told is read back, and one that was read can be told, by its field again
 told-back : (l : Latest) → tellable l ≡ true → latest-of (latest-field l) ≡ l
@@ -52,25 +49,29 @@ read-fields piece form e =
     let bytes = spelled 16 (pack order-widths (order-figures (form-fields form))) in
     ap order-read (order-made piece form e) ∙ sized bytes refl ∙ ap (λ fs. order-from (order-fields fs)) (read-back order-widths (order-figures (form-fields form)) 16 refl refl (w .room))
 
--- a wish that holds its earliest minute and nothing else
-abbrev blank : ℕ → Wish
-blank m = record { from = 0; to = 0; bandwidth = record { 0 = 0 }; duration = record { 0 = 0 }; earliest = record { 0 = m }; latest = Given (record { 0 = 0 }) }
+-- the form that a reader's values make for the writer, and so the form of an order
+abbrev pub lent : OrderRecord → OrderForm
+lent r = form-of (r .kind) (r .number) (r .request) (r .«latest_open»)
 
--- the form of an order: zero where its kind uses nothing
 abbrev pub order-form : Order → OrderForm
-order-form (Book number w) = record { kind = 1; number = number; wish = w }
-order-form (Cancel number) = record { kind = 2; number = number; wish = blank 0 }
-order-form (Clock minute) = record { kind = 3; number = 0; wish = blank (minute .0) }
-order-form (Offer w) = record { kind = 4; number = 0; wish = w }
+order-form o = lent (values-of o)
 
--- read after write gives the same order
+lent-latest : (l : Latest) → latest-from (record { 0 = latest-minute l }) (open-flag l) ≡ l
+lent-latest Open = refl
+lent-latest (Given m) = refl
+
+-- the reader finds the order in the fields of its form
+wish-back : (l : Latest) → tellable (latest-from (record { 0 = latest-minute l }) (open-flag l)) ≡ true → latest-of (latest-field (latest-from (record { 0 = latest-minute l }) (open-flag l))) ≡ l
+wish-back l e = told-back (latest-from (record { 0 = latest-minute l }) (open-flag l)) e ∙ lent-latest l
+
 same-from : (o : Order) → tellable (order-form o .wish .latest) ≡ true → order-from (form-fields (order-form o)) ≡ orders.Read o
 unfolding order-from clear
-same-from (Book number w) e = rw (told-back (w .latest) e)
+same-from (Book number w) e = rw (wish-back (w .latest) e)
 same-from (Cancel number) e = refl
 same-from (Clock minute) e = refl
-same-from (Offer w) e = rw (told-back (w .latest) e)
+same-from (Offer w) e = rw (wish-back (w .latest) e)
 
+-- read after write gives the same order
 pub read-after-write : (piece : List ℕ) (o : Order) → order-refusal (length piece) (order-form o) ≡ 0 → order-read (order-written piece (order-form o)) ≡ orders.Read o
 read-after-write piece o e = read-fields piece (order-form o) e ∙ same-from o (writable (length piece) (order-form o) e .told)
 
@@ -89,19 +90,18 @@ values-after-write piece form e = ap order-values (read-fields piece form e) ∙
     by (inl g) = g .1 ∙ rw (told-back (form .wish .latest) (w .told))
     by (inr j) = absurd (true≢false (sym (w .known) ∙ ap (λ r. is-order r) (j .1)))
 
--- the form that a reader's values make for the writer
-abbrev pub lent : OrderRecord → OrderForm
-lent r = form-of (r .kind) (r .number) (r .request) (r .«latest_open»)
+-- what C lends with a given latest start is handed back figure by figure; with an open one, the last minute and a flag of 1 are
+pub given-back : (piece : List ℕ) (kind number : ℕ) (r : Request)
+    → order-refusal (length piece) (form-of kind number r 0) ≡ 0
+    → order-values (order-read (order-written piece (form-of kind number r 0))) ≡ record { refusal = 0; kind = kind; number = number; request = r; «latest_open» = 0 }
+given-back piece kind number r e = values-after-write piece (form-of kind number r 0) e
 
-lent-latest : (l : Latest) → latest-from (record { 0 = latest-minute l }) (open-flag l) ≡ l
-lent-latest Open = refl
-lent-latest (Given m) = refl
-
-lent-values : (o : Order) → lent (values-of o) ≡ order-form o
-lent-values (Book number w) = rw (lent-latest (w .latest))
-lent-values (Cancel number) = refl
-lent-values (Clock minute) = refl
-lent-values (Offer w) = rw (lent-latest (w .latest))
+pub open-back : (piece : List ℕ) (kind number : ℕ) (r : Request) (flag : ℕ)
+    → flag ≢ 0
+    → order-refusal (length piece) (form-of kind number r flag) ≡ 0
+    → order-values (order-read (order-written piece (form-of kind number r flag)))
+    ≡ record { refusal = 0; kind = kind; number = number; request = record { from = r .from; to = r .to; bandwidth = r .bandwidth; duration = r .duration; earliest = r .earliest; latest = record { 0 = last-minute } }; «latest_open» = 1 }
+open-back piece kind number r flag n e = values-after-write piece (form-of kind number r flag) e ∙ rw (ne-eqb flag 0 n)
 
 -- the form of an order that was read has the fields that were read
 read-form : (f : OrderFields) (o : Order) → order-from f ≡ orders.Read o → (form-fields (order-form o) ≡ f) × (tellable (order-form o .wish .latest) ≡ true)
@@ -110,7 +110,7 @@ read-form f o e = by (decided f)
     by : Judged f (order-from f) → (form-fields (order-form o) ≡ f) × (tellable (order-form o .wish .latest) ≡ true)
     by (inl g) =
         let t = read-told (f .latest) (eqb (f .latest) all-ones) refl in
-        let q : order-form o ≡ lent (as-bits f) = sym (lent-values o) ∙ ap lent (sym (ap order-values e) ∙ g .1) in
+        let q : order-form o ≡ lent (as-bits f) = ap lent (sym (ap order-values e) ∙ g .1) in
         let l = lent-latest (latest-of (f .latest)) in
         (ap form-fields q ∙ rw (l, t .1), ap (λ (x : OrderForm). tellable (x .wish .latest)) q ∙ rw l (t .0))
     by (inr j) = absurd (true≢false (ap (λ r. is-order r) (sym e ∙ j .1)))
@@ -149,7 +149,7 @@ pub write-after-values : (piece bytes : List ℕ)
 write-after-values piece bytes h s e = by (order-read bytes) refl
   where
     by : (r : OrderRead) → order-read bytes ≡ r → (order-refusal (length piece) (lent (order-values (order-read bytes))) ≡ 0) × (order-written piece (lent (order-values (order-read bytes))) ≡ bytes)
-    by (orders.Read o) q = rw (q, lent-values o) (write-after-read piece bytes o h s q)
+    by (orders.Read o) q = rw q (write-after-read piece bytes o h s q)
     by (orders.Refused k) q = absurd (true≢false (sym (accepted-is-order bytes e) ∙ ap (λ r. is-order r) q))
 
 -- the same of links
@@ -189,3 +189,21 @@ link-write-after-read piece bytes l h s e =
     let free = accepted-link (length piece) l s (ap (fits link-widths) r ∙ cut-fits link-widths (big-endian bytes)) in
     let same = ap (λ n. spelled n (pack link-widths (cut link-widths (big-endian bytes)))) (sym (k .0)) ∙ write-back link-widths bytes (rw (k .0) refl) h in
     (free, link-made piece l free ∙ ap (λ fs. spelled 8 (pack link-widths fs)) r ∙ same)
+
+-- a link that is not refused was read
+accepted-link-read : (bytes : List ℕ) → link-values (link-read bytes) .refusal ≡ 0 → link-read bytes ≡ links.Read (link-values (link-read bytes) .link)
+unfolding link-read link-from
+accepted-link-read bytes e = by (eqb (length bytes) 8) refl (eqb (link-fields (cut link-widths (big-endian bytes)) .zero) 0) refl
+  where
+    by : (s : Bool) → eqb (length bytes) 8 ≡ s → (t : Bool) → eqb (link-fields (cut link-widths (big-endian bytes)) .zero) 0 ≡ t → link-read bytes ≡ links.Read (link-values (link-read bytes) .link)
+    by true p true q = rw (p, q) refl
+    by true p false q = let z : _≡_ {A = ℕ} 11 0 = rw (p, q) at e in absurd (omega arith)
+    by false p t q = let z : _≡_ {A = ℕ} 12 0 = rw p at e in absurd (omega arith)
+
+-- the link that was read, lent as it came, is written as the same bytes
+pub link-write-after-values : (piece bytes : List ℕ)
+    → Bytes bytes
+    → length piece ≡ 8
+    → link-values (link-read bytes) .refusal ≡ 0
+    → (link-refusal (length piece) (link-values (link-read bytes) .link) ≡ 0) × (link-written piece (link-values (link-read bytes) .link) ≡ bytes)
+link-write-after-values piece bytes h s e = link-write-after-read piece bytes (link-values (link-read bytes) .link) h s (accepted-link-read bytes e)

@@ -11,8 +11,8 @@ use borrow.Author.Tests.{eqb-true, eq-eqb, ne-eqb}
 use Rattle.units.specs.declared.Link.{Link}
 use Rattle.record.specs.declared.OrderForm.{OrderForm}
 use Rattle.record.specs.Layout.{pack, fits, spelled, order-widths, link-widths}
-use Rattle.record.specs.Records.{if-passed, order-from}
-use Rattle.record.specs.Forms.{tellable, form-fields, order-figures, is-order, form-fits, order-refusal, order-written, link-figures, link-refusal, link-written}
+use Rattle.record.specs.Records.{if-passed, order-from, is-order}
+use Rattle.record.specs.Forms.{tellable, form-fields, order-figures, form-fits, order-refusal, order-written, link-figures, link-refusal, link-written}
 
 -- no refusal behind a test: it passes, and nothing behind it refuses
 passed : (t : Bool) (x k : ℕ) → k ≢ 0 → if-passed t x k ≡ 0 → (t ≡ true) × (x ≡ 0)

@@ -4,15 +4,15 @@ use mathlib.Core.Bool.{Bool, true, false, _&&_, not}
 use Prim.Native.Nat.{ℕ}
 use lib.Dec.{eqb}
 use lib.ListN.{length}
+use Rattle.units.specs.declared.Minute.{Minute}
 use Rattle.units.specs.declared.Link.{Link}
+use Rattle.units.specs.declared.Request.{Request}
 use Rattle.record.specs.declared.Latest.{Latest}
 use Rattle.record.specs.declared.Latest.the-variants.{Open, Given}
 use Rattle.record.specs.declared.OrderForm.{OrderForm}
-use Rattle.record.specs.declared.OrderRead.{OrderRead}
-use Rattle.record.specs.declared.OrderRead.the-variants as orders
 use Rattle.record.specs.declared.OrderFields.{OrderFields}
 use Rattle.record.specs.Layout.{pack, fits, spelled, order-widths, link-widths, order-bytes, link-bytes}
-use Rattle.record.specs.Records.{bad-bits, bad-length, if-passed, behind-kind, all-ones, order-from}
+use Rattle.record.specs.Records.{bad-bits, bad-length, if-passed, behind-kind, all-ones, order-from, is-order}
 
 -- refusal number: a figure too large for its field, or a latest start that would be read as open
 abbrev pub bad-figure : ℕ
@@ -27,6 +27,14 @@ latest-field (Given m) = m .0
 abbrev pub tellable : Latest → Bool
 tellable Open = true
 tellable (Given m) = not (eqb (m .0) all-ones)
+
+-- the latest start that C lends: open, whatever the minute, unless the flag is 0
+abbrev pub latest-from : Minute → ℕ → Latest
+latest-from minute flag = if-passed (eqb flag 0) (Given minute) Open
+
+-- the form that C lends
+abbrev pub form-of : ℕ → ℕ → Request → ℕ → OrderForm
+form-of kind number r flag = record { kind = kind; number = number; wish = record { from = r .from; to = r .to; bandwidth = r .bandwidth; duration = r .duration; earliest = r .earliest; latest = latest-from (r .latest) flag } }
 
 -- the figures of a form by name
 abbrev pub form-fields : OrderForm → OrderFields
@@ -45,12 +53,7 @@ form-fields form = record {
 abbrev pub order-figures : OrderFields → List ℕ
 order-figures f = f .kind ∷ behind-kind f
 
--- whether the reader finds an order: a known kind, and no field filled that it does not use
-abbrev pub is-order : OrderRead → Bool
-is-order (orders.Read order) = true
-is-order (orders.Refused number) = false
-
--- every figure has room in its field
+-- every figure has room in its field, and the latest start can be told
 unfoldable pub form-fits : OrderForm → Bool
 form-fits form = fits order-widths (order-figures (form-fields form)) && tellable (form .wish .latest)
 
@@ -66,8 +69,10 @@ order-written piece form = if-passed (eqb (order-refusal (length piece) form) 0)
 abbrev pub link-figures : Link → List ℕ
 link-figures l = l .from ∷ l .to ∷ l .capacity .0 ∷ 0 ∷ []
 
+-- the refusal of a link, which has no kind and no field to leave unused
 unfoldable pub link-refusal : ℕ → Link → ℕ
 link-refusal count l = if-passed (eqb count link-bytes) (if-passed (fits link-widths (link-figures l)) 0 bad-figure) bad-length
 
+-- the piece afterwards
 unfoldable pub link-written : List ℕ → Link → List ℕ
 link-written piece l = if-passed (eqb (link-refusal (length piece) l) 0) (spelled link-bytes (pack link-widths (link-figures l))) piece

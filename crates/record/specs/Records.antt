@@ -7,7 +7,6 @@ use lib.ListN.{length, getD}
 use Rattle.record.specs.declared.Latest.{Latest}
 use Rattle.record.specs.declared.Latest.the-variants.{Open, Given}
 use Rattle.record.specs.declared.Wish.{Wish}
-use Rattle.record.specs.declared.Order.{Order}
 use Rattle.record.specs.declared.Order.the-variants.{Book, Cancel, Clock, Offer}
 use Rattle.record.specs.declared.OrderRead.{OrderRead}
 use Rattle.record.specs.declared.OrderRead.the-variants as orders
@@ -103,6 +102,11 @@ order-from f = if-passed (clear (uses (kind-of (f .kind))) (behind-kind f)) (ord
 -- what any bytes are read as
 unfoldable pub order-read : List ℕ → OrderRead
 order-read bytes = if-passed (eqb (length bytes) order-bytes) (order-from (order-fields (cut order-widths (big-endian bytes)))) (orders.Refused bad-length)
+
+-- whether an order was read
+abbrev pub is-order : OrderRead → Bool
+is-order (orders.Read order) = true
+is-order (orders.Refused number) = false
 
 -- the fields of a link by name
 abbrev pub link-fields : List ℕ → LinkFields

@@ -1,8 +1,5 @@
--- What the exported readers hand back: document 01's number and values for each case of a record that was read; and the
--- form that the exported writer is lent.
+-- What the exported readers hand back: document 01's number and values for each case of a record that was read.
 use Prim.Native.Nat.{ℕ}
-use lib.Dec.{eqb}
-use Rattle.units.specs.declared.Minute.{Minute}
 use Rattle.units.specs.declared.Request.{Request}
 use Rattle.units.specs.Limits.{last-minute}
 use Rattle.record.specs.declared.Latest.{Latest}
@@ -16,8 +13,6 @@ use Rattle.record.specs.declared.LinkRead.{LinkRead}
 use Rattle.record.specs.declared.LinkRead.the-variants as links
 use Rattle.record.specs.declared.OrderRecord.{OrderRecord}
 use Rattle.record.specs.declared.LinkRecord.{LinkRecord}
-use Rattle.record.specs.declared.OrderForm.{OrderForm}
-use Rattle.record.specs.Records.{if-passed}
 
 -- an open latest start is read as the last minute
 abbrev pub latest-minute : Latest → ℕ
@@ -58,10 +53,3 @@ order-values (orders.Refused number) = plain-values number 0 0 0
 abbrev pub link-values : LinkRead → LinkRecord
 link-values (links.Read link) = record { refusal = 0; link = link }
 link-values (links.Refused number) = record { refusal = number; link = record { from = 0; to = 0; capacity = record { 0 = 0 } } }
-
--- open, whatever the minute, unless the flag is 0
-abbrev pub latest-from : Minute → ℕ → Latest
-latest-from minute flag = if-passed (eqb flag 0) (Given minute) Open
-
-abbrev pub form-of : ℕ → ℕ → Request → ℕ → OrderForm
-form-of kind number r flag = record { kind = kind; number = number; wish = record { from = r .from; to = r .to; bandwidth = r .bandwidth; duration = r .duration; earliest = r .earliest; latest = latest-from (r .latest) flag } }

@@ -1,7 +1,7 @@
 // The two records of document 01, a link of 64 bits and an order of 128, read from bytes of any number and written into
 // a lent piece of bytes. The station's C daemon calls `gcr_read_order` and `gcr_read_link`, a branch desk's program
-// `gcr_write_order` and `gcr_write_link`; other crates call the four without `gcr`. Nothing here knows a desk: whether a
-// figure is in range for a booking is not asked.
+// `gcr_write_order` and `gcr_write_link`; the four without `gcr` are for other crates. Nothing here knows a desk: whether
+// a figure is in range for a booking is not asked.
 mod writing;
 
 ghost use mathlib.Core.Path.{_≡_};
@@ -12,8 +12,8 @@ ghost use lib.ListN.{length, take, drop};
 ghost use Rattle.units.specs.Lists.{all};
 ghost use Rattle.record.specs.Layout.{big-endian, cut, order-widths, link-widths};
 ghost use Rattle.record.specs.Records.{order-fields, link-fields, latest-of, wish-of, order-from, link-from, order-read, link-read};
-ghost use Rattle.record.specs.Forms.{order-refusal, order-written, link-refusal, link-written};
-ghost use Rattle.record.specs.Values.{latest-from, form-of, latest-minute, open-flag, request-of, only-earliest, request-values, plain-values, values-of, order-values, link-values};
+ghost use Rattle.record.specs.Forms.{latest-from, form-of, order-refusal, order-written, link-refusal, link-written};
+ghost use Rattle.record.specs.Values.{latest-minute, open-flag, request-of, only-earliest, request-values, plain-values, values-of, order-values, link-values};
 use units::Bandwidth;
 use units::Duration;
 use units::Link;
@@ -67,6 +67,14 @@ const BANDWIDTHS: u64 = 1 << 20;
 const DURATIONS: u64 = 1 << 20;
 
 const MINUTES: u64 = 1 << 30;
+
+// The duration lies across the two words of an order: what its part in the first can hold, and its part in the second.
+const HIGH_DURATIONS: u64 = 1 << 16;
+
+const LOW_DURATIONS: u64 = 1 << 4;
+
+// The zero field of a link.
+const ZEROS: u64 = 1 << 34;
 
 // The latest start of a request: open, or the minute that is given.
 pub enum Latest {
@@ -173,7 +181,7 @@ fn cut_order(high: u64, low: u64) -> OrderFields
         from: ((high >> 41) % NODES) as u32,
         to: ((high >> 36) % NODES) as u32,
         bandwidth: ((high >> 16) % BANDWIDTHS) as u32,
-        duration: (high % (1 << 16) * (1 << 4) + (low >> 60)) as u32,
+        duration: (high % HIGH_DURATIONS * LOW_DURATIONS + (low >> 60)) as u32,
         earliest: ((low >> 30) % MINUTES) as u32,
         latest: (low % MINUTES) as u32,
     }
@@ -187,7 +195,7 @@ fn cut_link(bits: u64) -> LinkFields
         from: (bits >> 59) as u32,
         to: ((bits >> 54) % NODES) as u32,
         capacity: ((bits >> 34) % BANDWIDTHS) as u32,
-        zero: bits % (1 << 34),
+        zero: bits % ZEROS,
     }
 }
 

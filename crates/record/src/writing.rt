@@ -5,8 +5,10 @@ use crate::BAD_FIGURE;
 use crate::BAD_LENGTH;
 use crate::BANDWIDTHS;
 use crate::DURATIONS;
+use crate::HIGH_DURATIONS;
 use crate::KINDS;
 use crate::LINK_BYTES;
+use crate::LOW_DURATIONS;
 use crate::Latest;
 use crate::MINUTES;
 use crate::NODES;
@@ -17,6 +19,7 @@ use crate::OrderFields;
 use crate::OrderForm;
 use crate::OrderRead;
 use crate::WORD;
+use crate::ZEROS;
 use crate::order_from;
 use units::Link;
 ghost use mathlib.Core.Path.{_≡_};
@@ -26,7 +29,8 @@ ghost use Prim.Native.Nat.{_+_, _*_, _^_, _≤_, _<_};
 ghost use lib.Dec.{ltb};
 ghost use lib.ListN.{length, drop};
 ghost use Rattle.record.specs.Layout.{pack, fits, spelled, order-widths, link-widths};
-ghost use Rattle.record.specs.Forms.{latest-field, tellable, form-fields, order-figures, is-order, form-fits, order-refusal, link-figures, link-refusal};
+ghost use Rattle.record.specs.Records.{is-order};
+ghost use Rattle.record.specs.Forms.{latest-field, tellable, form-fields, order-figures, form-fits, order-refusal, link-figures, link-refusal};
 
 // The first and the last eight bytes of an order as numbers.
 pub struct Words {
@@ -44,7 +48,7 @@ fn latest_field(latest: Latest) -> u32
     }
 }
 
-// Whether a latest start is read back as it is: a given minute of all ones is not.
+// Whether a latest start can be told: a given minute of all ones cannot, since it would be read as open.
 fn tellable(latest: Latest) -> bool
     ensures { λ r. ⌜ r ≡ tellable latest ⌝ }
 {
@@ -98,7 +102,7 @@ fn link_fits(link: Link) -> bool
     below(link.from, NODES, below(link.to, NODES, wide))
 }
 
-// Whether the figures of a form have room in their fields, and its latest start is read back as it is.
+// Whether the figures of a form have room in their fields, and its latest start can be told.
 fn form_fits(form: OrderForm) -> bool
     ensures { λ r. ⌜ r ≡ form-fits form ⌝ }
 {
@@ -164,9 +168,10 @@ pub(crate) fn pack_order(f: OrderFields) -> Words
     let numbered = push(f.kind as u64, NUMBERS, f.number);
     let routed = push(push(numbered, NODES, f.from), NODES, f.to);
     let wide = push(routed, BANDWIDTHS, f.bandwidth);
-    let timed = push((f.duration % (1 << 4)) as u64, MINUTES, f.earliest);
+    let duration = f.duration as u64;
+    let timed = push(duration % LOW_DURATIONS, MINUTES, f.earliest);
     Words {
-        high: push(wide, 1 << 16, f.duration >> 4),
+        high: push(wide, HIGH_DURATIONS, (duration / LOW_DURATIONS) as u32),
         low: push(timed, MINUTES, f.latest),
     }
 }
@@ -177,7 +182,7 @@ pub(crate) fn pack_link(link: Link) -> u64
     ensures { λ r. ⌜ r ≡ pack link-widths (link-figures link) ⌝ }
 {
     let routed = push(link.from as u64, NODES, link.to);
-    push(routed, BANDWIDTHS, link.capacity.0) * (1 << 34)
+    push(routed, BANDWIDTHS, link.capacity.0) * ZEROS
 }
 
 // Writes a word over the first eight bytes of the part, the most significant byte first.

@@ -14,11 +14,8 @@ cast-t6 c = search needs
 cast-t9 : tie.Need-cast-t9
 cast-t9 c = search needs
 
-rem-t11 : tie.Need-rem-t11
-rem-t11 c = search needs
-
 returns : tie.Need-returns
 returns c = sym (link-cut (c .args .bits) (c .fits .bits .fits))
 
 pub cut-link-spec : {M : Type 1} → statement M
-cut-link-spec = tie.close (tie.spec cast-t3 cast-t6 cast-t9 rem-t11 returns)
+cut-link-spec = tie.close (tie.spec cast-t3 cast-t6 cast-t9 returns)

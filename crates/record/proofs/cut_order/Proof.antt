@@ -22,23 +22,20 @@ cast-t13 c = search needs
 cast-t16 : tie.Need-cast-t16
 cast-t16 c = search needs
 
-rem-t18 : tie.Need-rem-t18
-rem-t18 c = search needs
+mul-t18 : tie.Need-mul-t18
+mul-t18 c = search needs
 
-mul-t20 : tie.Need-mul-t20
-mul-t20 c = search needs
+add-t20 : tie.Need-add-t20
+add-t20 c = record { fits = lt-trans (duration-below (c .args .high) (c .args .low) (c .fits .low .fits)) (lit< tt) }
 
-add-t22 : tie.Need-add-t22
-add-t22 c = record { fits = lt-trans (duration-below (c .args .high) (c .args .low) (c .fits .low .fits)) (lit< tt) }
+cast-t21 : tie.Need-cast-t21
+cast-t21 c = record { fits = lt-trans (duration-below (c .args .high) (c .args .low) (c .fits .low .fits)) (lit< tt) }
 
-cast-t23 : tie.Need-cast-t23
-cast-t23 c = record { fits = lt-trans (duration-below (c .args .high) (c .args .low) (c .fits .low .fits)) (lit< tt) }
+cast-t24 : tie.Need-cast-t24
+cast-t24 c = search needs
 
 cast-t26 : tie.Need-cast-t26
 cast-t26 c = search needs
-
-cast-t28 : tie.Need-cast-t28
-cast-t28 c = search needs
 
 returns : tie.Need-returns
 returns c = sym (order-cut (c .args .high) (c .args .low) (c .fits .high .fits) (c .fits .low .fits))
@@ -52,10 +49,9 @@ cut-order-spec =
     cast-t10
     cast-t13
     cast-t16
-    rem-t18
-    mul-t20
-    add-t22
-    cast-t23
+    mul-t18
+    add-t20
+    cast-t21
+    cast-t24
     cast-t26
-    cast-t28
     returns)

@@ -1,8 +1,8 @@
 -- `order_refusal` meets its contract: the first test that fails decides.
 use mathlib.Core.Path.{_≡_, sym, _∙_, ap}
 use borrow.Author.Tests.{eq-eqb, ne-eqb, not-true, not-false}
-use Rattle.record.specs.Records.{order-from}
-use Rattle.record.specs.Forms.{form-fields, is-order, order-refusal}
+use Rattle.record.specs.Records.{order-from, is-order}
+use Rattle.record.specs.Forms.{form-fields, order-refusal}
 use borrow.Author.Needs.{needs}
 use Rattle.record.proofs.writing.order_refusal.Statement.{statement}
 use Rattle.record.proofs.writing.order_refusal.Tie as tie

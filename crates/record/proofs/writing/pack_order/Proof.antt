@@ -28,20 +28,20 @@ push-requires-3 c κs = search needs
 push-requires-4 : tie.Need-push-requires-4
 push-requires-4 c κs = omega (arith, roomy _ (c .before .before .before .before .pre))
 
-rem-push : tie.Need-rem-push
-rem-push c = search needs
-
-cast-push-2 : tie.Need-cast-push-2
-cast-push-2 c = search needs
+cast-duration : tie.Need-cast-duration
+cast-duration c = search needs
 
 push-requires-5 : tie.Need-push-requires-5
 push-requires-5 c κs = search needs
 
+cast-push-2 : tie.Need-cast-push-2
+cast-push-2 c = search needs
+
 push-requires-6 : tie.Need-push-requires-6
-push-requires-6 c κs = omega (arith, roomy _ (c .before .before .before .before .before .before .before .before .pre))
+push-requires-6 c κs = omega (arith, roomy _ (c .before .before .before .before .before .before .before .pre))
 
 push-requires-7 : tie.Need-push-requires-7
-push-requires-7 c κs = omega (arith, roomy _ (c .before .before .before .before .before .before .before .before .before .pre))
+push-requires-7 c κs = omega (arith, roomy _ (c .before .before .before .before .before .before .before .before .pre))
 
 -- the figures before the duration as one number, and the whole
 abbrev ahead : OrderFields → ℕ
@@ -63,10 +63,10 @@ across a d e l high low h k = omega arith
 
 returns : tie.Need-returns
 returns c =
-    let p = c .before .before .before .before .before in
+    let p = c .before .before .before .before in
     let f = p .before .before .before .before .before .args .f in
     let high : p .push4 .result ≡ ahead f = rw (p .push4 .ensures, p .before .push3 .ensures, p .before .before .push2 .ensures, p .before .before .before .push .ensures) (refl {a = ahead f}) in
-    let low = c .push7 .ensures ∙ ap (λ x. x * 2 ^ 30 + f .latest) (c .before .before .before .push5 .ensures) in
+    let low = c .push7 .ensures ∙ ap (λ x. x * 2 ^ 30 + f .latest) (c .before .before .push5 .ensures) in
     across (ahead f) (f .duration) (f .earliest) (f .latest) _ _ (c .before .push6 .ensures ∙ ap (λ x. x * 2 ^ 16 + f .duration / 2 ^ 4) high) low ∙ sym (whole f)
 
 pub pack-order-spec : {M : Type 1} → statement M
@@ -78,9 +78,9 @@ pack-order-spec =
     push-requires-2
     push-requires-3
     push-requires-4
-    rem-push
-    cast-push-2
+    cast-duration
     push-requires-5
+    cast-push-2
     push-requires-6
     push-requires-7
     returns)
