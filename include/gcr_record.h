@@ -59,8 +59,8 @@ struct gcr_link_record gcr_read_link(const uint8_t *bytes, size_t count);
  * start is given if `latest_open` is 0; otherwise it is open, and the request's `latest` is not looked at. What a kind does
  * not use must be zero, `latest_open` too. Whether a desk would take the order is not asked.
  *
- * What was written is read back as it was given (an open latest start with its `latest` of 1,000,000,000), and what was
- * read, given as it came, is written as the same bytes. */
+ * What was written is read back as it was given; an open latest start comes back as `latest` 1,000,000,000 and
+ * `latest_open` 1. What was read, given as it came, is written as the same bytes. */
 uint32_t gcr_write_order(uint8_t *bytes, size_t count, uint32_t kind, uint32_t number, struct gcr_request request,
                          uint32_t latest_open);
 uint32_t gcr_write_link(uint8_t *bytes, size_t count, struct gcr_link link);

@@ -2,6 +2,7 @@
  *   write_records session FILE   document 01's session, from its figures; prints the refusals of what cannot be written
  *   write_records copy FROM FILE each record of a file read, and written again from what was read */
 #include <stdio.h>
+#include <stdlib.h>
 #include <string.h>
 
 #include "gcr_record.h"
@@ -109,6 +110,16 @@ static void copy(FILE *from, FILE *file)
     }
 }
 
+static FILE *opened(const char *name, const char *mode)
+{
+    FILE *file = fopen(name, mode);
+    if (file == NULL) {
+        perror(name);
+        exit(2);
+    }
+    return file;
+}
+
 int main(int count, char **words)
 {
     int copies = count == 4 && strcmp(words[1], "copy") == 0;
@@ -116,12 +127,8 @@ int main(int count, char **words)
         fprintf(stderr, "usage: write_records session FILE | write_records copy FROM FILE\n");
         return 2;
     }
-    FILE *from = copies ? fopen(words[2], "rb") : NULL;
-    FILE *file = fopen(words[count - 1], "wb");
-    if (file == NULL || (copies && from == NULL)) {
-        perror(words[count - 1]);
-        return 2;
-    }
+    FILE *from = copies ? opened(words[2], "rb") : NULL;
+    FILE *file = opened(words[count - 1], "wb");
     if (copies) {
         copy(from, file);
         fclose(from);

@@ -62,7 +62,24 @@ fn link_round_trip(link: &Link, piece: &[u8], what: &str) -> u32 {
     let read = read_link(&ours);
     let Link { from, to, capacity } = *link;
     assert_eq!(read, LinkRecord { refusal: 0, from, to, capacity }, "read after write, {what}");
+    let mut again = [0xA5; 8];
+    let lent = Link { from: read.from, to: read.to, capacity: read.capacity };
+    assert_eq!((write_link(&mut again, &lent), &again[..]), (0, &ours[..]), "write after read, {what}: {read:?}");
     0
+}
+
+fn valid_link(random: &mut Random) -> Link {
+    let mut bits = |width: u64| random.below(1 << width) as u32;
+    Link { from: bits(5), to: bits(5), capacity: bits(20) }
+}
+
+/// What a figure is damaged to: each bit changed, one more, one less, and the ends of ranges.
+fn damages(value: u32) -> impl Iterator<Item = u32> {
+    let flips = (0..32).map(move |bit| value ^ 1 << bit);
+    let near = [value.wrapping_add(1), value.wrapping_sub(1)];
+    let ends =
+        [0, 1, 3, 4, 5, 15, 16, 31, 32, 16383, 16384, 0xFFFFF, 0x10_0000, LAST_MINUTE, ALL_ONES, 1 << 30, u32::MAX];
+    flips.chain(near).chain(ends)
 }
 
 fn random_piece(random: &mut Random) -> [u8; 16] {
@@ -121,10 +138,13 @@ fn every_length_to_forty_and_a_guard_behind_the_piece() {
             let mut bad = OrderRecord { kind: 5, ..order };
             bad.request.bandwidth = u32::MAX;
             assert_eq!(round_trip(&bad, &lent[..count], &what), if count == 16 { 11 } else { 12 }, "{what}");
-            let link = Link { from: 40, to: 1, capacity: 1 };
-            assert_eq!(link_round_trip(&link, &lent[..count], &what), if count == 8 { 4 } else { 12 }, "{what}");
+            let link = valid_link(&mut random);
+            assert_eq!(link_round_trip(&link, &lent[..count], &what), if count == 8 { 0 } else { 12 }, "{what}");
+            let bad = Link { from: 40, ..link };
+            assert_eq!(link_round_trip(&bad, &lent[..count], &what), if count == 8 { 4 } else { 12 }, "{what}");
             let before = lent;
             write_order(&mut lent[..count], &order);
+            write_link(&mut lent[..count], &link);
             assert_eq!(lent[count..], before[count..], "a byte behind the piece is changed, {what}");
         }
     }
@@ -133,18 +153,13 @@ fn every_length_to_forty_and_a_guard_behind_the_piece() {
 #[test]
 fn every_single_figure_damaged() {
     let mut random = Random::new(SEED + 1);
-    let ends =
-        [0, 1, 3, 4, 5, 15, 16, 31, 32, 16383, 16384, 0xFFFFF, 0x10_0000, LAST_MINUTE, ALL_ONES, 1 << 30, u32::MAX];
     let mut by_refusal = [0u32; 13];
     for turn in 0..4_000 {
         let order = valid_order(&mut random);
         let piece = random_piece(&mut random);
         for place in 0..9 {
             let mut damaged = order;
-            let value = *figure(&mut damaged, place);
-            let flips = (0..32).map(|bit| value ^ 1 << bit);
-            let near = [value.wrapping_add(1), value.wrapping_sub(1)];
-            for value in flips.chain(near).chain(ends) {
+            for value in damages(*figure(&mut damaged, place)) {
                 *figure(&mut damaged, place) = value;
                 let what = format!("seed {:#x}, turn {turn}, figure {place} as {value}", SEED + 1);
                 by_refusal[round_trip(&damaged, &piece, &what) as usize] += 1;
@@ -153,6 +168,25 @@ fn every_single_figure_damaged() {
     }
     println!("written {}, refused 4 {}, 11 {}", by_refusal[0], by_refusal[4], by_refusal[11]);
     assert!(by_refusal[0] > 200_000 && by_refusal[4] > 200_000 && by_refusal[11] > 200_000);
+}
+
+#[test]
+fn every_single_figure_of_a_link_damaged() {
+    let mut random = Random::new(SEED + 6);
+    for turn in 0..4_000 {
+        let Link { from, to, capacity } = valid_link(&mut random);
+        let piece = random_piece(&mut random);
+        let damaged = (damages(from).map(|from| Link { from, to, capacity }))
+            .chain(damages(to).map(|to| Link { from, to, capacity }))
+            .chain(damages(capacity).map(|capacity| Link { from, to, capacity }));
+        for link in damaged {
+            link_round_trip(&link, &piece[..8], &format!("seed {:#x}, turn {turn}", SEED + 6));
+        }
+    }
+    let ends = [(31, 31, 0xFFFFF), (32, 31, 1), (31, 32, 1), (31, 31, 0x10_0000)];
+    let refusals =
+        ends.map(|(from, to, capacity)| link_round_trip(&Link { from, to, capacity }, &[0xA5; 8], "ends of ranges"));
+    assert_eq!(refusals, [0, 4, 4, 4]);
 }
 
 #[test]
@@ -174,15 +208,16 @@ fn two_figures_damaged_get_the_first_number() {
 fn every_bit_of_a_written_order_changed() {
     let mut random = Random::new(SEED + 3);
     for turn in 0..2_000 {
+        let what = format!("seed {:#x}, turn {turn}", SEED + 3);
         let mut bytes = [0; 16];
-        assert_eq!(write_order(&mut bytes, &valid_order(&mut random)), 0);
+        assert_eq!(write_order(&mut bytes, &valid_order(&mut random)), 0, "{what}");
         for bit in 0..128 {
             let mut damaged = bytes;
             damaged[bit / 8] ^= 0x80 >> (bit % 8);
             let read = read_order(&damaged);
             if read.refusal == 0 {
                 let mut again = [0; 16];
-                let what = format!("seed {:#x}, turn {turn}, bit {bit}", SEED + 3);
+                let what = format!("{what}, bit {bit}");
                 assert_eq!((write_order(&mut again, &read), again), (0, damaged), "write after read, {what}: {read:?}");
             }
         }
@@ -197,17 +232,8 @@ fn three_hundred_thousand_round_trips() {
         let order = valid_order(&mut random);
         let piece = random_piece(&mut random);
         assert_eq!(round_trip(&order, &piece, &what), 0, "{what}");
-        let width = |random: &mut Random, w: u64| random.below(1 << w) as u32;
-        let mut link =
-            Link { from: width(&mut random, 5), to: width(&mut random, 5), capacity: width(&mut random, 20) };
+        let link = valid_link(&mut random);
         assert_eq!(link_round_trip(&link, &piece[..8], &what), 0, "{what}");
-        match random.below(6) {
-            0 => link.from = random.next() as u32,
-            1 => link.to = 32 << random.below(27),
-            2 => link.capacity = 1 << random.within(20, 31),
-            _ => continue,
-        }
-        link_round_trip(&link, &piece[..8], &what);
     }
 }
 

@@ -1,5 +1,6 @@
 -- `order_refusal` meets its contract: the first test that fails decides.
 use mathlib.Core.Path.{_≡_, sym, _∙_, ap}
+use native.Mathlib.Omega.{arith}
 use borrow.Author.Tests.{eq-eqb, ne-eqb, not-true, not-false}
 use Rattle.record.specs.Records.{order-from, is-order}
 use Rattle.record.specs.Forms.{form-fields, order-refusal}
@@ -10,6 +11,10 @@ use Rattle.record.proofs.writing.order_refusal.Tie as tie
 returns : tie.Need-returns
 unfolding order-refusal
 returns c = rw (ne-eqb _ _ (c .if1 .taken))
+
+-- a piece that is not refused for its length has the right one
+sized : (c : tie.Else1) → c .before .args .count ≡ 16
+sized c = omega arith
 
 form-fields-requires : tie.Need-form-fields-requires
 form-fields-requires c κs = search needs
@@ -26,7 +31,7 @@ judged c = c .is-order .ensures ∙ ap (λ r. is-order r) (c .before .order-from
 
 returns-2 : tie.Need-returns-2
 unfolding order-refusal
-returns-2 c = rw (eq-eqb _ _ (c .before .before .before .before .if1 .left), sym (judged (c .before)), not-true (c .before .is-order .result) (c .if2 .taken))
+returns-2 c = rw (eq-eqb _ _ (sized (c .before .before .before .before)), sym (judged (c .before)), not-true (c .before .is-order .result) (c .if2 .taken))
 
 form-fits-requires : tie.Need-form-fits-requires
 form-fits-requires c κs = search needs
@@ -35,13 +40,13 @@ returns-3 : tie.Need-returns-3
 unfolding order-refusal
 returns-3 c =
     let t = c .before .before .before in
-    rw (eq-eqb _ _ (t .before .before .before .if1 .left), sym (judged t), not-false (t .is-order .result) (c .before .before .if2 .left), sym (c .before .form-fits .ensures), not-true (c .before .form-fits .result) (c .if3 .taken))
+    rw (eq-eqb _ _ (sized (t .before .before .before)), sym (judged t), not-false (t .is-order .result) (c .before .before .if2 .left), sym (c .before .form-fits .ensures), not-true (c .before .form-fits .result) (c .if3 .taken))
 
 returns-4 : tie.Need-returns-4
 unfolding order-refusal
 returns-4 c =
     let t = c .before .before .before in
-    rw (eq-eqb _ _ (t .before .before .before .if1 .left), sym (judged t), not-false (t .is-order .result) (c .before .before .if2 .left), sym (c .before .form-fits .ensures), not-false (c .before .form-fits .result) (c .if3 .left))
+    rw (eq-eqb _ _ (sized (t .before .before .before)), sym (judged t), not-false (t .is-order .result) (c .before .before .if2 .left), sym (c .before .form-fits .ensures), not-false (c .before .form-fits .result) (c .if3 .left))
 
 pub order-refusal-spec : {M : Type 1} → statement M
 order-refusal-spec =
