@@ -3,7 +3,7 @@
 use mathlib.Core.Path.{_≡_, refl, sym, _∙_, ap, ap₂}
 use mathlib.Core.List.{List, [], _∷_, _++_}
 use mathlib.Core.Bool.{true, and-eq-true-iff}
-use Prim.Native.Nat.{ℕ, zero, suc, _+_, _*_, _/_, _%_, _^_, _≤_, _<_}
+use Prim.Native.Nat.{ℕ, zero, suc, _+_, _*_, _/_, _%_, _^_, _<_}
 use native.Mathlib.Nat.{add-assoc, add-comm, zero-add, zero-mul, add-mul, mul-assoc, mod-one, mod-eq-of-lt, mod-lt, pow-suc, mul-comm}
 use native.Mathlib.Omega.{arith}
 use lib.Arith.{digits-lt}
