@@ -27,74 +27,30 @@ fn main() {
     let mut random = Random::new(0x5EED);
     let orders: Vec<[u8; 16]> = (0..RECORDS).map(|_| order(&mut random)).collect();
     let links: Vec<[u8; 8]> = (0..RECORDS).map(|_| (random.next() & !((1 << 34) - 1)).to_be_bytes()).collect();
-    let forms: Vec<OrderRecord> = orders.iter().map(|b| form(b)).collect();
-    let lent_links: Vec<Link> = links.iter().map(|b| lent_link(b)).collect();
-    compare(
-        "order record read",
-        RECORDS as u32,
-        || {
-            orders.iter().for_each(|b| {
-                black_box(read_order(black_box(b)));
-            })
-        },
-        || {
-            orders.iter().for_each(|b| {
-                black_box(plain_order(black_box(b)));
-            })
-        },
-    );
-    compare(
-        "link record read",
-        RECORDS as u32,
-        || {
-            links.iter().for_each(|b| {
-                black_box(read_link(black_box(b)));
-            })
-        },
-        || {
-            links.iter().for_each(|b| {
-                black_box(plain_link(black_box(b)));
-            })
-        },
-    );
+    // What is lent to the writer: what the bytes hold, or for damaged ones a form that is refused.
+    let forms: Vec<OrderRecord> = orders.iter().map(|b| plain::read_order(b)).collect();
+    let lent: Vec<Link> = links.iter().map(|b| plain::read_link(b).link).collect();
+    let count = RECORDS as u32;
+    compare("order record read", count, || each(&orders, |b| read_order(b)), || each(&orders, |b| plain_order(b)));
+    compare("link record read", count, || each(&links, |b| read_link(b)), || each(&links, |b| plain_link(b)));
     compare(
         "order record written",
-        RECORDS as u32,
-        || {
-            forms.iter().for_each(|f| {
-                black_box(write_order(black_box(&mut [0; 16]), black_box(f)));
-            })
-        },
-        || {
-            forms.iter().for_each(|f| {
-                black_box(plain_write_order(black_box(&mut [0; 16]), black_box(f)));
-            })
-        },
+        count,
+        || each(&forms, |f| write_order(black_box(&mut [0; 16]), f)),
+        || each(&forms, |f| plain_write_order(black_box(&mut [0; 16]), f)),
     );
     compare(
         "link record written",
-        RECORDS as u32,
-        || {
-            lent_links.iter().for_each(|l| {
-                black_box(write_link(black_box(&mut [0; 8]), black_box(l)));
-            })
-        },
-        || {
-            lent_links.iter().for_each(|l| {
-                black_box(plain_write_link(black_box(&mut [0; 8]), black_box(l)));
-            })
-        },
+        count,
+        || each(&lent, |l| write_link(black_box(&mut [0; 8]), l)),
+        || each(&lent, |l| plain_write_link(black_box(&mut [0; 8]), l)),
     );
 }
 
-// What is lent to the writer: what the bytes hold, or for damaged ones a form that is refused.
-fn form(bytes: &[u8; 16]) -> OrderRecord {
-    OrderRecord { refusal: 0, ..plain::read_order(bytes) }
-}
-
-fn lent_link(bytes: &[u8; 8]) -> Link {
-    let read = plain::read_link(bytes);
-    Link { from: read.from, to: read.to, capacity: read.capacity }
+fn each<T, R>(records: &[T], work: impl Fn(&T) -> R) {
+    for record in records {
+        black_box(work(black_box(record)));
+    }
 }
 
 // The independent reader and writer are called as the library is: through a call, and not inlined here.

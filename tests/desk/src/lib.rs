@@ -11,6 +11,8 @@ pub mod plain;
 pub mod sessions;
 pub mod tables;
 
+pub use support::{Link, Request};
+
 pub const NODES: usize = 32;
 pub const LINKS: usize = 64;
 pub const BOOKINGS: usize = 64;
@@ -30,26 +32,6 @@ pub const MAX_DURATION: u32 = 525_600;
 pub const MAX_MINUTE: u32 = 1_000_000_000;
 /// The last minute that may be shown: the latest end.
 pub const MAX_END: u32 = 1_000_525_600;
-
-#[repr(C)]
-#[derive(Clone, Copy, Debug, PartialEq, Eq, Default)]
-pub struct Link {
-    pub from: u32,
-    pub to: u32,
-    pub capacity: u32,
-}
-
-/// What a booking or an offer asks for. A latest start that a record leaves open is MAX_MINUTE here.
-#[repr(C)]
-#[derive(Clone, Copy, Debug, PartialEq, Eq, Default)]
-pub struct Request {
-    pub from: u32,
-    pub to: u32,
-    pub bandwidth: u32,
-    pub duration: u32,
-    pub earliest: u32,
-    pub latest: u32,
-}
 
 #[repr(C)]
 #[derive(Clone, Copy, Debug, PartialEq, Eq, Default)]

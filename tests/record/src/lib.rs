@@ -2,17 +2,7 @@
 
 pub mod plain;
 
-/// What an order's request holds, as the header has it.
-#[repr(C)]
-#[derive(Clone, Copy, Debug, PartialEq, Eq, Default)]
-pub struct Request {
-    pub from: u32,
-    pub to: u32,
-    pub bandwidth: u32,
-    pub duration: u32,
-    pub earliest: u32,
-    pub latest: u32,
-}
+pub use support::{Link, Request};
 
 #[repr(C)]
 #[derive(Clone, Copy, Debug, PartialEq, Eq, Default)]
@@ -28,18 +18,7 @@ pub struct OrderRecord {
 #[derive(Clone, Copy, Debug, PartialEq, Eq, Default)]
 pub struct LinkRecord {
     pub refusal: u32,
-    pub from: u32,
-    pub to: u32,
-    pub capacity: u32,
-}
-
-/// A link that is lent to the writer, as the header has it.
-#[repr(C)]
-#[derive(Clone, Copy, Debug, PartialEq, Eq, Default)]
-pub struct Link {
-    pub from: u32,
-    pub to: u32,
-    pub capacity: u32,
+    pub link: Link,
 }
 
 mod exported {

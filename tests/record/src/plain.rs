@@ -41,12 +41,8 @@ pub fn read_link(bytes: &[u8]) -> LinkRecord {
     if bits & ((1 << 34) - 1) != 0 {
         return LinkRecord { refusal: 11, ..LinkRecord::default() };
     }
-    LinkRecord {
-        refusal: 0,
-        from: (bits >> 59) as u32,
-        to: (bits >> 54 & 31) as u32,
-        capacity: (bits >> 34 & 0xFFFFF) as u32,
-    }
+    let (from, to, capacity) = ((bits >> 59) as u32, (bits >> 54 & 31) as u32, (bits >> 34 & 0xFFFFF) as u32);
+    LinkRecord { refusal: 0, link: Link { from, to, capacity } }
 }
 
 /// What the writer refuses and writes; the piece is left as it is where there is a refusal.

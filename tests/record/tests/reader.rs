@@ -1,6 +1,6 @@
 //! The exported readers against the independent one, and against the examples of document 01.
 
-use record_tests::{plain, read_link, read_order, LinkRecord, OrderRecord, Request};
+use record_tests::{plain, read_link, read_order, Link, LinkRecord, OrderRecord, Request};
 use support::Random;
 
 const SEED: u64 = 0x5EED_0001;
@@ -88,7 +88,7 @@ fn the_session_s_first_order() {
 #[test]
 fn the_session_s_first_link() {
     let bytes = [0x00, 0x40, 0x00, 0x28, 0x00, 0x00, 0x00, 0x00];
-    assert_eq!(read_link(&bytes), LinkRecord { refusal: 0, from: 0, to: 1, capacity: 10 });
+    assert_eq!(read_link(&bytes), LinkRecord { refusal: 0, link: Link { from: 0, to: 1, capacity: 10 } });
 }
 
 #[test]

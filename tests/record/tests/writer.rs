@@ -1,5 +1,7 @@
 //! The exported writers against the independent ones, and round trips through writer and reader.
 
+use std::fmt::Debug;
+
 use record_tests::{plain, read_link, read_order, write_link, write_order, Link, LinkRecord, OrderRecord, Request};
 use support::Random;
 
@@ -34,37 +36,49 @@ fn as_read(order: &OrderRecord) -> OrderRecord {
     read
 }
 
-/// Writes the order over a piece of these bytes, by the library and by the independent writer, and compares number and
-/// piece. What was written is read back, and written again as the same bytes. Answers the refusal.
-fn round_trip(order: &OrderRecord, piece: &[u8], what: &str) -> u32 {
-    let (mut ours, mut plain) = (piece.to_vec(), piece.to_vec());
-    let (refusal, expected) = (write_order(&mut ours, order), plain::write_order(&mut plain, order));
-    assert_eq!((refusal, &ours), (expected, &plain), "order, {what}: {order:?} over {piece:02x?}");
-    if refusal != 0 {
-        assert_eq!(ours, piece, "a refused piece is changed, {what}: {order:?}");
-        return refusal;
+type Writer<T> = fn(&mut [u8], &T) -> u32;
+
+/// Writes a record over a piece of these bytes, by the library and by the independent writer, and compares number and
+/// piece. Answers what was written, or the refusal.
+fn written<T: Debug>(ours: Writer<T>, plain: Writer<T>, record: &T, piece: &[u8], what: &str) -> Result<Vec<u8>, u32> {
+    let (mut bytes, mut expected) = (piece.to_vec(), piece.to_vec());
+    let (refusal, number) = (ours(&mut bytes, record), plain(&mut expected, record));
+    assert_eq!((refusal, &bytes), (number, &expected), "{what}: {record:?} over {piece:02x?}");
+    if refusal == 0 {
+        return Ok(bytes);
     }
-    let read = read_order(&ours);
+    assert_eq!(bytes, piece, "a refused piece is changed, {what}: {record:?}");
+    Err(refusal)
+}
+
+/// Writes an order, and reads it back; what was read is written again as the same bytes. Answers the refusal.
+fn round_trip(order: &OrderRecord, piece: &[u8], what: &str) -> u32 {
+    let bytes = match written(write_order, plain::write_order, order, piece, what) {
+        Ok(bytes) => bytes,
+        Err(refusal) => return refusal,
+    };
+    let read = read_order(&bytes);
     assert_eq!(read, as_read(order), "read after write, {what}");
-    let mut again = [0xA5; 16];
-    assert_eq!((write_order(&mut again, &read), &again[..]), (0, &ours[..]), "write after read, {what}: {read:?}");
+    assert_eq!(
+        written(write_order, plain::write_order, &read, &[0xA5; 16], what),
+        Ok(bytes),
+        "write after read, {what}"
+    );
     0
 }
 
 fn link_round_trip(link: &Link, piece: &[u8], what: &str) -> u32 {
-    let (mut ours, mut plain) = (piece.to_vec(), piece.to_vec());
-    let (refusal, expected) = (write_link(&mut ours, link), plain::write_link(&mut plain, link));
-    assert_eq!((refusal, &ours), (expected, &plain), "link, {what}: {link:?} over {piece:02x?}");
-    if refusal != 0 {
-        assert_eq!(ours, piece, "a refused piece is changed, {what}: {link:?}");
-        return refusal;
-    }
-    let read = read_link(&ours);
-    let Link { from, to, capacity } = *link;
-    assert_eq!(read, LinkRecord { refusal: 0, from, to, capacity }, "read after write, {what}");
-    let mut again = [0xA5; 8];
-    let lent = Link { from: read.from, to: read.to, capacity: read.capacity };
-    assert_eq!((write_link(&mut again, &lent), &again[..]), (0, &ours[..]), "write after read, {what}: {read:?}");
+    let bytes = match written(write_link, plain::write_link, link, piece, what) {
+        Ok(bytes) => bytes,
+        Err(refusal) => return refusal,
+    };
+    let read = read_link(&bytes);
+    assert_eq!(read, LinkRecord { refusal: 0, link: *link }, "read after write, {what}");
+    assert_eq!(
+        written(write_link, plain::write_link, &read.link, &[0xA5; 8], what),
+        Ok(bytes),
+        "write after read, {what}"
+    );
     0
 }
 
@@ -242,9 +256,9 @@ fn links_that_were_read_are_written_as_the_same_bytes() {
     let mut random = Random::new(SEED + 5);
     for turn in 0..200_000 {
         let bytes = (random.next() & !((1 << 34) - 1)).to_be_bytes();
-        let LinkRecord { refusal, from, to, capacity } = read_link(&bytes);
+        let LinkRecord { refusal, link } = read_link(&bytes);
         let mut again = [0xA5; 8];
-        let written = write_link(&mut again, &Link { from, to, capacity });
+        let written = write_link(&mut again, &link);
         assert_eq!((refusal, written, again), (0, 0, bytes), "seed {:#x}, turn {turn}", SEED + 5);
     }
 }

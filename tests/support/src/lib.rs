@@ -1,4 +1,25 @@
-//! What the tests share: random numbers from a fixed seed, and a seed that is printed when a test fails.
+//! What the tests share: a link and a request as the headers have them, random numbers from a fixed seed, and a seed that
+//! is printed when a test fails.
+
+#[repr(C)]
+#[derive(Clone, Copy, Debug, PartialEq, Eq, Default)]
+pub struct Link {
+    pub from: u32,
+    pub to: u32,
+    pub capacity: u32,
+}
+
+/// What a booking or an offer asks for. A latest start that a record leaves open is 1,000,000,000 here.
+#[repr(C)]
+#[derive(Clone, Copy, Debug, PartialEq, Eq, Default)]
+pub struct Request {
+    pub from: u32,
+    pub to: u32,
+    pub bandwidth: u32,
+    pub duration: u32,
+    pub earliest: u32,
+    pub latest: u32,
+}
 
 /// A small generator (SplitMix64). The same seed gives the same numbers everywhere.
 pub struct Random(u64);
