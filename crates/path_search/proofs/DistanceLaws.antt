@@ -1,4 +1,5 @@
--- The distances after n rounds: one round more makes the next ones of them, and a round that reaches no node ends them.
+-- The distances after n rounds: one round more makes the next ones of them, and a round that reaches no node ends them. A
+-- round that reaches a node reaches one that needs as many links as rounds were gone.
 use mathlib.Core.Path.{_≡_, refl, sym, _∙_, ap, subst}
 use mathlib.Core.Bool.{Bool, true, false}
 use Prim.Native.Nat.{ℕ, zero, suc, _≤_, _<_, zero-le}
@@ -13,6 +14,7 @@ use Rattle.path_search.specs.Paths.{Graph, reaches}
 use Rattle.path_search.specs.Rounds.{far, figure-of, before-rounds, distance, nearer, spread}
 use Rattle.path_search.proofs.Chains.{Leaves, reaches-first, reaches-step}
 use Rattle.path_search.proofs.Loops.{NodesBelow}
+use Rattle.path_search.proofs.Needed.{Fewest}
 use Rattle.path_search.proofs.Rounds.{out, out-tells, nearer-tells, reached-beyond}
 
 module _ (g : Graph) (usable : ℕ → Bool) (target : ℕ) where
@@ -102,6 +104,23 @@ module _ (g : Graph) (usable : ℕ → Bool) (target : ℕ) where
                   | no b ↦ u m (omega arith)
                 ]
 
+    -- the round reaches a node: one that it reaches needs n + 1 links
+    pub reaches-needed : anyBelow (g .count) (nearer g usable figure n) ≡ true → (v : ℕ) × Fewest g usable target v (suc n)
+    reaches-needed q =
+        let s = anyBelow-some (nearer g usable figure n) (g .count) q in
+        let o = nearer-tells g usable figure n (s .0) .0 (s .2) in
+        let v = g .from (s .0) in (
+          v,
+          record {
+            leads = leads-reached v (some-anyBelow (leads v) (g .count) (s .0) (s .1) (out-tells g usable figure n v (s .0) .1 (refl, o)));
+            before = by v (figure v) (says v (let b = below .from-below (s .0) (s .1) in omega arith)) (o .1);
+          },
+        )
+      where
+        by : (v d : ℕ) → Says n v d → n < d → (m : ℕ) → m < suc n → reached m v ≡ false
+        by v d (fewest-are k h r b) z m a = absurd (omega arith)
+        by v d (none-yet u) z m a = u m (omega arith)
+
     -- the round reaches no node
     module _ (stop : anyBelow (g .count) (nearer g usable figure n) ≡ false) where
       -- then a chain of any length leaves one of at most n links
@@ -133,3 +152,7 @@ module _ (g : Graph) (usable : ℕ → Bool) (target : ℕ) where
           by : (d : ℕ) → Says n v d → Says m v d
           by d (fewest-are k a r b) = fewest-are k (omega arith) r b
           by d (none-yet u) = none-yet (λ j a. not-true (reached j v) (λ t. let w = within j v t in clash (w .2) (u (w .0) (w .1))))
+
+      -- so that no node needs more than n links
+      pub no-more-needed : (v m : ℕ) → Fewest g usable target v m → m ≤ n
+      no-more-needed v m f = elim (decLt n m) [ yes k ↦ let w = within m v (f .leads) in clash (w .2) (f .before (w .0) (omega (arith, w .1))) | no k ↦ omega arith ]

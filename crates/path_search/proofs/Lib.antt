@@ -5,6 +5,7 @@ pub mod Routes
 pub mod Paths
 pub mod Answers
 pub mod Agree
+pub mod Needed
 pub mod Theorems
 mod Rounds
 mod DistanceLaws

@@ -3,3 +3,4 @@ pub mod Rounds
 pub mod Picks
 pub mod Answer
 pub mod Right
+pub mod Needed

@@ -4,13 +4,14 @@
 
 ghost use mathlib.Core.Path.{_≡_};
 ghost use mathlib.Core.List.{[]};
-ghost use mathlib.Core.Bool.{_&&_};
-ghost use Prim.Native.Nat.{_<_, min};
+ghost use mathlib.Core.Bool.{false, _&&_};
+ghost use Prim.Native.Nat.{suc, _≤_, min};
 ghost use lib.Dec.{eqb, ltb};
 ghost use Rattle.units.specs.Limits.{last-node};
 ghost use Rattle.units.specs.Search.{anyBelow};
 ghost use Rattle.path_search.specs.Paths.{route};
 ghost use Rattle.path_search.specs.Rounds.{Shows, figures, before-rounds, distance, nearer, spread};
+ghost use Rattle.path_search.specs.Needed.{most-needed};
 ghost use Rattle.path_search.specs.Picks.{least-end, nearer-link, place-of, picked, Walkable};
 ghost use Rattle.path_search.specs.Answer.{InRange, graph, usable, path-of, answer};
 use units::LAST_NODE;
@@ -23,9 +24,6 @@ const NODES: usize = PATH_LINKS + 1;
 
 // The most links of a path, as a figure.
 const MOST: u32 = PATH_LINKS as u32;
-
-// The most rounds that can reach a node.
-const ROUNDS: u32 = LAST_NODE;
 
 // The figure of a node from which no chain is known.
 const FAR: u32 = LAST_NODE + 1;
@@ -57,6 +55,14 @@ struct AfterRound {
     reached: bool,
 }
 
+// The rounds that were gone: the figures after them, their number, and whether the last of them reached a node.
+#[repr(C)]
+pub struct RoundsGone {
+    pub table: [u32; NODES],
+    pub number: u32,
+    pub reached: bool,
+}
+
 // Whether a link leads from a node beyond the figure `near` to a node of that figure.
 fn leads_nearer(usable: bool, to: u32, from: u32, near: u32) -> bool
     ensures { λ r. ⌜ r ≡ (usable && eqb to near && ltb near from) ⌝ }
@@ -66,7 +72,7 @@ fn leads_nearer(usable: bool, to: u32, from: u32, near: u32) -> bool
 
 // One round: each node one usable link beyond the figure `near` gets the figure after it.
 fn round(ends: LinkEnds, set: LinkSet, table: [u32; NODES], near: u32) -> AfterRound
-    requires { ⌜ InRange ends ⌝ ∗ ⌜ near < last-node ⌝ }
+    requires { ⌜ InRange ends ⌝ ∗ ⌜ near ≤ last-node ⌝ }
     ensures { λ r. ⌜ Shows (r .table) (spread (graph ends) (usable set) (figures table) near (ends .count)) ⌝ }
     ensures { λ r. ⌜ r .reached ≡ anyBelow (ends .count) (nearer (graph ends) (usable set) (figures table) near) ⌝ }
 {
@@ -101,23 +107,43 @@ fn start(destination: u32) -> [u32; NODES]
     table
 }
 
-// For each node the fewest links that lead from it to the destination, or `FAR`. It goes in rounds from the destination
-// and ends at the first that reaches no node.
-fn distances(ends: LinkEnds, set: LinkSet, destination: u32) -> [u32; NODES]
-    requires { ⌜ InRange ends ⌝ }
-    ensures { λ r. ⌜ Shows r (distance (graph ends) (usable set) destination last-node) ⌝ }
+// One round more. It is counted, whether or not it reaches a node.
+fn next_round(ends: LinkEnds, set: LinkSet, gone: RoundsGone) -> RoundsGone
+    requires { ⌜ InRange ends ⌝ ∗ ⌜ gone .number ≤ last-node ⌝ }
+    ensures { λ r. ⌜ Shows (r .table) (spread (graph ends) (usable set) (figures (gone .table)) (gone .number) (ends .count)) ⌝ }
+    ensures { λ r. ⌜ r .number ≡ suc (gone .number) ⌝ }
+    ensures { λ r. ⌜ r .reached ≡ anyBelow (ends .count) (nearer (graph ends) (usable set) (figures (gone .table)) (gone .number)) ⌝ }
 {
-    let mut table = start(destination);
-    let mut near = 0;
-    while near < ROUNDS {
-        let after = round(ends, set, table, near);
-        table = after.table;
-        if !after.reached {
-            return table;
-        }
-        near += 1;
+    let before = gone.table;
+    let after = round(ends, set, before, gone.number);
+    let table = after.table;
+    RoundsGone {
+        table,
+        number: gone.number + 1,
+        reached: after.reached,
     }
-    table
+}
+
+// For each node the fewest links that lead from it to the destination, or `FAR`; and the number of rounds, one more than
+// the most links that any node needs from which a chain leads there. It goes in rounds from the destination and ends at the
+// first that reaches no node. It is exported so that a test in Rust can call it.
+#[no_mangle]
+pub extern "C" fn distances(ends: LinkEnds, set: LinkSet, destination: u32) -> RoundsGone
+    requires { ⌜ InRange ends ⌝ }
+    ensures { λ r. ⌜ Shows (r .table) (distance (graph ends) (usable set) destination last-node) ⌝ }
+    ensures { λ r. ⌜ r .number ≡ suc (most-needed (graph ends) (usable set) destination) ⌝ }
+    ensures { λ r. ⌜ r .reached ≡ false ⌝ }
+{
+    let table = start(destination);
+    let mut gone = RoundsGone {
+        table,
+        number: 0,
+        reached: true,
+    };
+    while gone.reached {
+        gone = next_round(ends, set, gone);
+    }
+    gone
 }
 
 // The lesser of two figures.
@@ -213,7 +239,8 @@ pub extern "C" fn find_route(ends: LinkEnds, set: LinkSet, source: u32, destinat
     requires { ⌜ InRange ends ⌝ }
     ensures { λ r. ⌜ r ≡ answer (route (graph ends) (usable set) destination source) ⌝ }
 {
-    let table = distances(ends, set, destination);
+    let gone = distances(ends, set, destination);
+    let table = gone.table;
     let least = least_end(ends, set, table, source);
     if least < MOST {
         walk(ends, set, table, source, least + 1)

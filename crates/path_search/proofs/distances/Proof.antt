@@ -1,83 +1,118 @@
--- distances meets its contract. The table shows the distances after `near` rounds.
-use mathlib.Core.Path.{_≡_, sym, _∙_, ap}
-use Prim.Native.Nat.{suc, _-_, _≤_, zero-le}
-use native.Mathlib.Numerals.{add-one}
+-- distances meets its contract. As long as the rounds go on, the table shows the distances of up to `number` links, and some
+-- node needs that many.
+use mathlib.Core.Path.{_≡_, refl, sym, _∙_, ap, subst}
+use mathlib.Core.List.{List}
+use mathlib.Core.Bool.{Bool, true, false}
+use Prim.Native.Nat.{ℕ, suc, _-_, _≤_}
 use native.Mathlib.Omega.{arith}
-use borrow.Author.Tests.{not-true}
+use borrow.Author.Needs.{needs}
 use Rattle.units.specs.Limits.{last-node}
-use Rattle.path_search.specs.Rounds.{Shows, figures, distance}
+use Rattle.units.specs.Search.{anyBelow}
+use Rattle.units.proofs.Search.{clash}
+use Rattle.path_search.specs.Paths.{Graph}
+use Rattle.path_search.specs.Rounds.{far, Shows, figures, distance, nearer, spread}
+use Rattle.path_search.specs.Needed.{most-needed}
 use Rattle.path_search.specs.Answer.{graph, usable}
 use Rattle.path_search.proofs.Answers.{nodes-below}
-use Rattle.path_search.proofs.DistanceLaws.{before-is, spread-is, settled}
-use borrow.Author.Needs.{needs}
+use Rattle.path_search.proofs.Loops.{NodesBelow}
+use Rattle.path_search.proofs.Needed.{Fewest, fewest-needs, needs-fewest, none-needed, needs-few, most-only, most-right}
+use Rattle.path_search.proofs.DistanceLaws.{before-is, spread-is, reaches-needed, settled, no-more-needed}
 use Rattle.path_search.proofs.distances.Statement.{statement}
 use Rattle.path_search.proofs.distances.Tie as tie
 
+module _ (g : Graph) (usable : ℕ → Bool) (destination : ℕ) where
+  -- n rounds were gone, each of which reached a node
+  record Going (table : List ℕ) (n : ℕ) : Type 0 where
+    shows : Shows table (distance g usable destination n)
+    node : ℕ
+    needs : Fewest g usable destination node n
+
+  -- n rounds were gone, the last of which reached none
+  record Ended (table : List ℕ) (n : ℕ) : Type 0 where
+    shows : Shows table (distance g usable destination last-node)
+    number : n ≡ suc (most-needed g usable destination)
+
+  record Gone (table : List ℕ) (n : ℕ) (reached : Bool) : Type 0 where
+    going : reached ≡ true → Going table n
+    ended : reached ≡ false → Ended table n
+
+  module _ (below : NodesBelow g (suc last-node)) (table : List ℕ) (n : ℕ) (going : Going table n) where
+    few : n ≤ last-node
+    few = needs-few g usable destination below (going .node) n (going .needs)
+
+    -- one round more
+    next : (after : List ℕ) (reached : Bool) → Shows after (spread g usable (figures table) n (g .count)) → reached ≡ anyBelow (g .count) (nearer g usable (figures table) n) → Gone after (suc n) reached
+    next after reached shows told =
+        record {
+          going = λ e. let v = reaches-needed g usable destination below n few (figures table) (going .shows) (sym told ∙ e) in record { shows = shown; node = v .0; needs = v .1 };
+          ended = λ e.
+              let stop = sym told ∙ e in
+              let still = settled g usable destination below n few (figures table) (going .shows) stop in
+              record {
+                shows = λ v h. shown v h ∙ still (suc n) v (omega arith) ∙ sym (still last-node v few);
+                number = ap suc
+                    (most-only g usable destination n (most-needed g usable destination)
+                    (record {
+                      node = going .node;
+                      needs = fewest-needs g usable destination (going .node) n (going .needs);
+                      most = λ v m d. no-more-needed g usable destination below n few (figures table) (going .shows) stop v m (needs-fewest g usable destination v m d);
+                    })
+                    (most-right g usable destination below));
+              };
+        }
+      where
+        shown : Shows after (distance g usable destination (suc n))
+        shown v h = shows v h ∙ spread-is g usable destination below n few (figures table) (going .shows) v h
+
 abbrev Inv-loop : tie.InvT-loop
-Inv-loop ends set destination table₀ near₀ table near = (near ≤ last-node) × Shows table (distance (graph ends) (usable set) destination near)
+Inv-loop ends set destination gone₀ gone = Gone (graph ends) (usable set) destination (gone .table) (gone .number) (gone .reached)
 
 abbrev μ-loop : tie.MeasureT-loop
-μ-loop ends set destination table₀ near₀ table near = last-node - near
+μ-loop ends set destination gone₀ gone = far - gone .number
 
 start-requires : tie.Need-start-requires Inv-loop μ-loop
 start-requires c κs = search needs
 
 loop-holds : tie.Need-loop-holds Inv-loop μ-loop
-loop-holds c = (zero-le, λ v h. c .start .ensures v h ∙ before-is (graph (c .before .args .ends)) (usable (c .before .args .set)) (c .before .args .destination) v)
+loop-holds c =
+    let args = c .before .args in
+    record {
+      going = λ e.
+          record {
+            shows = λ v h. c .start .ensures v h ∙ before-is (graph (args .ends)) (usable (args .set)) (args .destination) v;
+            node = args .destination;
+            needs = none-needed (graph (args .ends)) (usable (args .set)) (args .destination);
+          };
+      ended = λ e. clash refl e;
+    }
 
-round-requires : tie.Need-round-requires Inv-loop μ-loop
-round-requires c κs = search needs
-
-returns : tie.Need-returns Inv-loop μ-loop
-returns c v h =
-    let turn = c .before .before .before .before .before in
-    let args = turn .before .before .args in
-    let after = c .before .before .before .round in
-    let g = graph (args .ends) in
-    let u = usable (args .set) in
-    let below = nodes-below (args .ends) (turn .before .before .pre) in
-    let stop = sym (after .ensures .1) ∙ not-true (after .result .reached) (c .if1 .taken) in
-    let end = settled g u (args .destination) below (turn .loop .near) (turn .loop .inv .0) (figures (turn .loop .table)) (turn .loop .inv .1) stop in
-    after .ensures .0 v h
-    ∙ spread-is g u (args .destination) below (turn .loop .near) (turn .loop .inv .0) (figures (turn .loop .table)) (turn .loop .inv .1) v h
-    ∙ end (suc (turn .loop .near)) v (omega arith)
-    ∙ sym (end last-node v (turn .loop .inv .0))
-
-add-near : tie.Need-add-near Inv-loop μ-loop
-add-near c = search needs
+next-round-requires : tie.Need-next-round-requires Inv-loop μ-loop
+next-round-requires c κs =
+    let entry = c .before .before .before in
+    let args = entry .args in
+    let gone = c .before .loop .gone in
+    (entry .pre, few (graph (args .ends)) (usable (args .set)) (args .destination) (nodes-below (args .ends) (entry .pre)) (gone .table) (gone .number) (c .before .loop .inv .going (c .loop-test .taken)))
 
 loop-less : tie.Need-loop-less Inv-loop μ-loop
-loop-less c = omega arith
+loop-less c =
+    let entry = c .before .before .before .before in
+    let args = entry .args in
+    let gone = c .before .before .loop .gone in
+    let early = few (graph (args .ends)) (usable (args .set)) (args .destination) (nodes-below (args .ends) (entry .pre)) (gone .table) (gone .number) (c .before .before .loop .inv .going (c .before .loop-test .taken)) in
+    omega (arith, c .next-round .ensures .1 .0)
 
 loop-again : tie.Need-loop-again Inv-loop μ-loop
 loop-again c =
-    let turn = c .before .before .before .before .before in
-    let args = turn .before .before .args in
-    let after = c .before .before .before .round in (
-      omega arith,
-      λ v h. after .ensures .0 v h
-          ∙ spread-is (graph (args .ends)) (usable (args .set)) (args .destination) (nodes-below (args .ends) (turn .before .before .pre)) (turn .loop .near) (turn .loop .inv .0) (figures (turn .loop .table))
-          (turn .loop .inv .1) v h
-          ∙ rw (add-one (turn .loop .near)),
-    )
+    let entry = c .before .before .before .before in
+    let args = entry .args in
+    let gone = c .before .before .loop .gone in
+    let after = c .next-round .result in
+    subst (λ n. Gone (graph (args .ends)) (usable (args .set)) (args .destination) (after .table) n (after .reached)) (sym (c .next-round .ensures .1 .0))
+    (next (graph (args .ends)) (usable (args .set)) (args .destination) (nodes-below (args .ends) (entry .pre)) (gone .table) (gone .number) (c .before .before .loop .inv .going (c .before .loop-test .taken))
+    (after .table) (after .reached) (c .next-round .ensures .0) (c .next-round .ensures .1 .1))
 
-returns-2 : tie.Need-returns-2 Inv-loop μ-loop
-returns-2 c v h =
-    let e : c .before .loop .near ≡ last-node = omega arith in
-    let args = c .before .before .before .args in
-    c .before .loop .inv .1 v h ∙ ap (λ n. distance (graph (args .ends)) (usable (args .set)) (args .destination) n v) e
+returns : tie.Need-returns Inv-loop μ-loop
+returns c = let last = c .before .loop .inv .ended (c .loop-test .left) in (last .shows, (last .number, c .loop-test .left))
 
 pub distances-spec : {M : Type 1} → statement M
-distances-spec =
-    tie.close
-    (tie.spec
-    Inv-loop
-    μ-loop
-    start-requires
-    loop-holds
-    round-requires
-    returns
-    add-near
-    loop-less
-    loop-again
-    returns-2)
+distances-spec = tie.close (tie.spec Inv-loop μ-loop start-requires loop-holds next-round-requires loop-less loop-again returns)

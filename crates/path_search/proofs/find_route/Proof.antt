@@ -19,12 +19,12 @@ add-walk c = search needs
 
 walk-requires : tie.Need-walk-requires
 walk-requires c κs =
-    let from = c .before .before .before in
+    let from = c .before .before .before .before in
     let args = from .args in
-    let table = c .before .before .distances in
+    let gone = c .before .before .before .distances in
     let least = c .before .least-end in (
       from .pre,
-      walkable (graph (args .ends)) (usable (args .set)) (args .destination) (nodes-below (args .ends) (from .pre)) (figures (table .result)) (table .ensures) (args .source) (least .result)
+      walkable (graph (args .ends)) (usable (args .set)) (args .destination) (nodes-below (args .ends) (from .pre)) (figures (gone .result .table)) (gone .ensures .0) (args .source) (least .result)
           (least .ensures) (c .if1 .taken),
     )
 
@@ -33,23 +33,23 @@ no-path-requires c κs = search needs
 
 returns : tie.Need-returns
 returns c =
-    let from = c .before .before .before .before in
+    let from = c .before .before .before .before .before in
     let args = from .args in
-    let table = c .before .before .before .distances in
+    let gone = c .before .before .before .before .distances in
     let least = c .before .before .least-end in
     let found =
-    route-is (graph (args .ends)) (usable (args .set)) (args .destination) (nodes-below (args .ends) (from .pre)) (figures (table .result)) (table .ensures) (args .source) (least .result)
+    route-is (graph (args .ends)) (usable (args .set)) (args .destination) (nodes-below (args .ends) (from .pre)) (figures (gone .result .table)) (gone .ensures .0) (args .source) (least .result)
     (least .ensures) (c .before .if1 .taken) in
     c .walk .ensures ∙ sym (ap answer found)
 
 returns-2 : tie.Need-returns-2
 returns-2 c =
-    let from = c .before .before .before .before in
+    let from = c .before .before .before .before .before in
     let args = from .args in
-    let table = c .before .before .before .distances in
+    let gone = c .before .before .before .before .distances in
     let least = c .before .before .least-end in
     let none-found =
-    route-none (graph (args .ends)) (usable (args .set)) (args .destination) (nodes-below (args .ends) (from .pre)) (figures (table .result)) (table .ensures) (args .source) (least .result)
+    route-none (graph (args .ends)) (usable (args .set)) (args .destination) (nodes-below (args .ends) (from .pre)) (figures (gone .result .table)) (gone .ensures .0) (args .source) (least .result)
     (least .ensures) (c .before .if1 .left) in
     c .no-path .ensures ∙ sym (ap answer none-found)
 
