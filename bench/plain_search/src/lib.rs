@@ -43,8 +43,10 @@ pub fn lasting(rows: &[u32], bandwidth: u32) -> Usable {
 pub fn rounds(ends: Ends, usable: &Usable, destination: u32) -> Distances {
     let mut distance = [FAR; NODES];
     distance[destination as usize] = 0;
-    for near in 0..FAR - 1 {
-        let mut reached = false;
+    let mut near = 0;
+    let mut reached = true;
+    while reached {
+        reached = false;
         for ((&from, &to), &usable) in ends.from.iter().zip(ends.to).zip(usable) {
             let (from, to) = (from as usize, to as usize);
             if usable && distance[to] == near && near < distance[from] {
@@ -52,9 +54,7 @@ pub fn rounds(ends: Ends, usable: &Usable, destination: u32) -> Distances {
                 reached = true;
             }
         }
-        if !reached {
-            break;
-        }
+        near += 1;
     }
     distance
 }

@@ -1,19 +1,69 @@
-//! The compiled path search beside a plain breadth-first search in Rust, on random graphs of 32 nodes and 64 links, in
-//! one run. Both answer the same question; the graphs are made before the clock starts. Prints nanoseconds for each
-//! search, and the ratio.
+//! The compiled path search beside plain Rust, in one run: searches in the same rounds, with a queue on arrays, and with lists
+//! on the heap. Linked with the search of an earlier revision (`BEFORE=REVISION bash bench/run routes`) it times that too.
+//! All answer the same questions, which are made before the clock starts.
 
-use plain_search::{queue, walk, Ends};
-use routes_tests::graphs::full_question;
-use routes_tests::{as_path, find_route, InRange, Path, Question, NODES};
+use plain_search::{queue, rounds, walk, Distances, Ends, Usable};
+use routes_tests::graphs::{line_question, random_question};
+use routes_tests::{as_path, find_route, InRange, Path, Question, LINKS, NODES};
 use std::collections::VecDeque;
 use std::hint::black_box;
-use std::time::Instant;
+use timing::least;
 
-const GRAPHS: u64 = 4_096;
-const TURNS: u64 = 50;
+const GRAPHS: u64 = 1_024;
+
+/// A way to answer a question.
+type Way = fn(&Asked) -> Path;
+
+/// A question, and the same as the compiled search takes it.
+struct Asked {
+    question: Question,
+    in_range: InRange,
+}
+
+impl Asked {
+    fn new(question: Question) -> Asked {
+        Asked { question, in_range: question.in_range().unwrap() }
+    }
+}
+
+fn compiled(asked: &Asked) -> Path {
+    find_route(&asked.in_range)
+}
+
+/// The compiled search of an earlier revision.
+#[cfg(before)]
+fn before(asked: &Asked) -> Path {
+    use routes_tests::{LinkEnds, LinkSet};
+    extern "C" {
+        fn find_route_before(ends: LinkEnds, set: LinkSet, source: u32, destination: u32) -> Path;
+    }
+    let q = &asked.question;
+    // Safe: the question is in range, and the search's declaration has not changed.
+    unsafe { find_route_before(q.ends, q.set, q.source, q.destination) }
+}
+
+fn same_rounds(asked: &Asked) -> Path {
+    on_arrays(&asked.question, rounds)
+}
+
+fn with_queue(asked: &Asked) -> Path {
+    on_arrays(&asked.question, queue)
+}
+
+/// Plain Rust with no list on the heap.
+#[inline(always)]
+fn on_arrays(q: &Question, distances: impl Fn(Ends, &Usable, u32) -> Distances) -> Path {
+    let ends = Ends { from: &q.ends.from[..q.ends.count], to: &q.ends.to[..q.ends.count] };
+    let distance = distances(ends, &q.set.has, q.destination);
+    match walk(ends, &q.set.has, &distance, q.source, q.destination) {
+        Some(path) => Path { count: path.count as u32, links: path.links },
+        None => as_path(None),
+    }
+}
 
 /// Breadth-first from the destination, then the lowest link that leads one nearer.
-fn plain(q: &Question) -> Path {
+fn on_the_heap(asked: &Asked) -> Path {
+    let q = &asked.question;
     let mut links_in: Vec<Vec<usize>> = vec![Vec::new(); NODES];
     for link in 0..q.ends.count {
         if q.set.has[link] {
@@ -46,39 +96,40 @@ fn plain(q: &Question) -> Path {
     as_path(Some(path))
 }
 
-/// The same with no list on the heap.
-fn on_arrays(q: &Question) -> Path {
-    let ends = Ends { from: &q.ends.from[..q.ends.count], to: &q.ends.to[..q.ends.count] };
-    let distance = queue(ends, &q.set.has, q.destination);
-    match walk(ends, &q.set.has, &distance, q.source, q.destination) {
-        Some(path) => Path { count: path.count as u32, links: path.links },
-        None => as_path(None),
-    }
-}
-
-/// Nanoseconds for each search.
-fn timed<Q>(questions: &[Q], search: impl Fn(&Q) -> Path) -> f64 {
-    let start = Instant::now();
-    for _ in 0..TURNS {
-        for q in questions {
-            black_box(search(black_box(q)));
+/// Times every way on the questions, and prints the compiled search's time beside each.
+fn run(what: &str, questions: impl Iterator<Item = Question>) {
+    let asked: Vec<Asked> = questions.map(Asked::new).collect();
+    let ways: &[(&str, Way)] = &[
+        ("compiled", compiled),
+        #[cfg(before)]
+        ("compiled before", before),
+        ("same rounds", same_rounds),
+        ("queue on arrays", with_queue),
+        ("lists on the heap", on_the_heap),
+    ];
+    for (name, way) in ways {
+        for (seed, asked) in asked.iter().enumerate() {
+            assert_eq!(way(asked), compiled(asked), "{what}, {name}, seed {seed}");
         }
     }
-    start.elapsed().as_nanos() as f64 / (TURNS * GRAPHS) as f64
+    let each = |way: &Way| {
+        for asked in &asked {
+            black_box(way(black_box(asked)));
+        }
+    };
+    let mut work: Vec<_> = ways.iter().map(|(_, way)| move || each(way)).collect();
+    let mut work: Vec<&mut dyn FnMut()> = work.iter_mut().map(|work| work as &mut dyn FnMut()).collect();
+    let times = least(asked.len() as u32, &mut work);
+    println!("{what}");
+    for ((name, _), time) in ways.iter().zip(&times) {
+        println!("  {name:18} {time:6.0} ns, ratio {:.2}", times[0] / time);
+    }
 }
 
 fn main() {
-    let questions: Vec<Question> = (0..GRAPHS).map(full_question).collect();
-    let in_range: Vec<InRange> = questions.iter().map(|q| q.in_range().unwrap()).collect();
-    for (seed, (q, r)) in questions.iter().zip(&in_range).enumerate() {
-        assert_eq!(find_route(r), plain(q), "seed {seed}");
-        assert_eq!(find_route(r), on_arrays(q), "seed {seed}");
-    }
-    let ours = timed(&in_range, find_route);
-    let theirs = timed(&questions, plain);
-    let arrays = timed(&questions, on_arrays);
-    println!("path search, {GRAPHS} graphs of 32 nodes and 64 links, {TURNS} turns");
-    println!("compiled search     {ours:7.0} ns");
-    println!("plain search        {theirs:7.0} ns, ratio {:.2}", ours / theirs);
-    println!("search on arrays    {arrays:7.0} ns, ratio {:.2}", ours / arrays);
+    let random = |nodes: usize, links: usize| (0..GRAPHS).map(move |seed| random_question(seed, nodes, links));
+    run("8 nodes, 16 links", random(8, 16));
+    run("8 nodes, 64 links", random(8, LINKS));
+    run("32 nodes in a line, 62 links", (0..GRAPHS).map(|_| line_question()));
+    run("32 nodes, 64 links", random(NODES, LINKS));
 }

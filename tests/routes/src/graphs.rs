@@ -69,12 +69,17 @@ fn link_of(random: &mut Random, shape: Shape, nodes: u64, link: u64, source: u64
 
 /// A question of 32 nodes and 64 links between different nodes, from a node to another; one link in eight can't be used.
 pub fn full_question(seed: u64) -> Question {
+    random_question(seed, NODES, LINKS)
+}
+
+/// The same of so many nodes, and links.
+pub fn random_question(seed: u64, nodes: usize, count: usize) -> Question {
     let mut random = Random::new(seed);
-    let nodes = NODES as u64;
+    let nodes = nodes as u64;
     let other = |random: &mut Random, node: u64| (node + 1 + random.below(nodes - 1)) % nodes;
-    let mut ends = LinkEnds { count: LINKS, from: [0; LINKS], to: [0; LINKS] };
+    let mut ends = LinkEnds { count, from: [0; LINKS], to: [0; LINKS] };
     let mut set = LinkSet { has: [true; LINKS] };
-    for link in 0..LINKS {
+    for link in 0..count {
         let from = random.below(nodes);
         ends.from[link] = from as u32;
         ends.to[link] = other(&mut random, from) as u32;
@@ -83,4 +88,16 @@ pub fn full_question(seed: u64) -> Question {
     let source = random.below(nodes);
     let destination = other(&mut random, source);
     Question { ends, set, source: source as u32, destination: destination as u32 }
+}
+
+/// The longest search: 32 nodes in a line, a link each way between neighbours, from one end to the other.
+pub fn line_question() -> Question {
+    let last = NODES as u32 - 1;
+    let mut ends = LinkEnds { count: 2 * (NODES - 1), from: [0; LINKS], to: [0; LINKS] };
+    for node in 0..last {
+        let link = 2 * node as usize;
+        (ends.from[link], ends.to[link]) = (node, node + 1);
+        (ends.from[link + 1], ends.to[link + 1]) = (node + 1, node);
+    }
+    Question { ends, set: LinkSet { has: [true; LINKS] }, source: 0, destination: last }
 }
