@@ -1,5 +1,5 @@
--- The distances after n rounds: one round more makes the next ones of them, and a round that reaches no node ends them. A
--- round that reaches a node reaches one that needs as many links as rounds were gone.
+-- The distances after n rounds: one round more makes the next ones of them, and a round that reaches no node ends them. One
+-- that reaches a node reaches one that needs as many links as rounds are then done.
 use mathlib.Core.Path.{_≡_, refl, sym, _∙_, ap, subst}
 use mathlib.Core.Bool.{Bool, true, false}
 use Prim.Native.Nat.{ℕ, zero, suc, _≤_, _<_, zero-le}
@@ -26,7 +26,7 @@ module _ (g : Graph) (usable : ℕ → Bool) (target : ℕ) where
     fewest-are : (d : ℕ) → d ≤ n → reached d v ≡ true → ((m : ℕ) → m < d → reached m v ≡ false) → Says n v d
     none-yet : ((m : ℕ) → m ≤ n → reached m v ≡ false) → Says n v far
 
-  distance-says : (n v : ℕ) → Says n v (distance g usable target n v)
+  pub distance-says : (n v : ℕ) → Says n v (distance g usable target n v)
   unfolding distance
   distance-says n v = by (firstFrom 0 (suc n) (λ k. reached k v)) refl
     where

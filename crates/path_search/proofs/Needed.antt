@@ -2,8 +2,9 @@
 -- give.
 use mathlib.Core.Path.{_≡_, refl, sym, _∙_, ap, subst}
 use mathlib.Core.Logic.{_⊎_, inl, inr}
+use mathlib.Core.List.{List}
 use mathlib.Core.Bool.{Bool, true, false}
-use Prim.Native.Nat.{ℕ, zero, suc, _≤_, _<_, zero-le, max}
+use Prim.Native.Nat.{ℕ, zero, suc, _≤_, _<_, zero-le, suc-le-suc, max}
 use native.Mathlib.Nat.{le-antisymm}
 use native.Mathlib.Decide.{ℕ-discrete, decLt}
 use native.Mathlib.Omega.{arith}
@@ -14,7 +15,7 @@ use Rattle.units.specs.Search.{Found, at, nothing}
 use Rattle.units.proofs.Search.{IsFirst, firstFrom-found, firstFrom-first, clash, not-true}
 use Rattle.path_search.specs.Paths.{Graph, reaches}
 use Rattle.path_search.specs.Needed.{counted, needed, most-below, most-needed, Needs, MostNeeded}
-use Rattle.path_search.proofs.Chains.{reaches-first, reaches-iff, chain-reaches}
+use Rattle.path_search.proofs.Chains.{Way, reaches-first, reaches-iff, chain-reaches}
 use Rattle.path_search.proofs.Loops.{NodesBelow, simple, simple-short}
 use Rattle.path_search.proofs.Paths.{chain-leads}
 
@@ -103,26 +104,31 @@ module _ (g : Graph) (usable : ℕ → Bool) (destination : ℕ) where
       by ih nothing e = let z : most n ≡ max 0 (most n) = omega arith in subst Met z ih
 
   module _ (below : NodesBelow g (suc last-node)) where
-    -- no node needs more than 31 links, and one that needs a link is 0 to 31
+    -- where a chain of any length leads from a node, one of at most 31 links does
+    pub short-reached : (v : ℕ) → v ≤ last-node → (path : List ℕ) → Way g usable destination v path → (n : ℕ) × (n ≤ last-node) × (reached n v ≡ true)
+    short-reached v node path w =
+        let s = simple g Usable destination v path w .0 in
+        let short = simple-short g Usable destination (suc last-node) below v (suc-le-suc node) s in
+        (length (s .path), omega arith, chain-reaches g usable destination v (s .path) (s .chain))
+
+    -- a node that needs a link is one of 0 to 31
+    some-needed : (v n : ℕ) → Fewest v (suc n) → v ≤ last-node
+    some-needed v n f = let l = reaches-first g usable destination n v (f .leads) in let b = below .from-below (l .0) (l .1 .known) in omega (arith, l .1 .begins)
+
+    -- no node needs more than 31 links
     pub needs-few : (v n : ℕ) → Fewest v n → n ≤ last-node
     needs-few v zero f = zero-le
     needs-few v (suc n) f =
-        let l = reaches-first g usable destination n v (f .leads) in
-        let b = below .from-below (l .0) (l .1 .known) in
-        let node : v < suc last-node = omega (arith, l .1 .begins) in
         let r = reaches-iff g usable destination (suc n) v .0 (f .leads) in
-        let s = simple g Usable destination v (r .0) (r .2) .0 in
-        let short = simple-short g Usable destination (suc last-node) below v node s in
-        elim (decLt (length (s .path)) (suc n)) [ yes k ↦ clash (chain-reaches g usable destination v (s .path) (s .chain)) (f .before (length (s .path)) k) | no k ↦ omega arith ]
+        let s = short-reached v (some-needed v n f) (r .0) (r .2) in
+        elim (decLt (s .0) (suc n)) [ yes k ↦ clash (s .2) (f .before (s .0) k) | no k ↦ omega (arith, s .1) ]
 
     fewest-bound : (v n : ℕ) → Fewest v n → n ≤ most-needed g usable destination
     unfolding needed
     fewest-bound v zero f = zero-le
     fewest-bound v (suc n) f =
-        let l = reaches-first g usable destination n v (f .leads) in
-        let b = below .from-below (l .0) (l .1 .known) in
         let few = needs-few v (suc n) f in
-        most-bound (suc last-node) v (suc n) (omega (arith, l .1 .begins))
+        most-bound (suc last-node) v (suc n) (suc-le-suc (some-needed v n f))
         (firstFrom-first (λ k. reached k v) 0 (suc most-hops) (suc n) (record { low = zero-le; high = omega arith; passes = f .leads; before = λ k z a. f .before k a }))
 
     -- `most-needed` is the most that is needed

@@ -1,9 +1,10 @@
 -- The theorems on the answer, with no search in what they say. From a node to another one, over links in range: the answer
--- is right; it has a link exactly where some chain leads there; 31 links are enough; one answer is right.
+-- is right; it has a link exactly where some chain leads there; 31 links are enough; one answer is right. Beneath it: the
+-- rounds answer the links that each node needs, and their number is one more than the most that any needs.
 use mathlib.Core.Path.{_≡_, refl, sym, ap, subst}
 use mathlib.Core.Logic.{_≢_, _↔_}
 use mathlib.Core.List.{List, [], _∷_}
-use mathlib.Core.Bool.{Bool, true}
+use mathlib.Core.Bool.{Bool, true, false}
 use Prim.Native.Nat.{ℕ, suc, _-_, _≤_}
 use native.Mathlib.Decide.{decLe}
 use native.Mathlib.Omega.{arith}
@@ -11,18 +12,24 @@ use lib.ListN.{length, take, replicate}
 use lib.Seq.{take-append-seam}
 use Rattle.units.specs.Limits.{last-node, most-hops}
 use Rattle.units.specs.Lists.{Within, padded}
-use Rattle.units.proofs.Search.{firstFrom-nothing, not-true}
+use Rattle.units.proofs.Search.{firstFrom-nothing, clash, not-true}
 use Rattle.path_search.specs.declared.LinkEnds.{LinkEnds}
 use Rattle.path_search.specs.declared.LinkSet.{LinkSet}
 use Rattle.path_search.specs.declared.Path.{Path}
+use Rattle.path_search.specs.declared.RoundsDone.{RoundsDone}
 use Rattle.path_search.specs.Paths.{Graph, Route, none, reaches, fewest, route-of, route}
 use Rattle.path_search.specs.Answer.{InRange, graph, usable, path-of, answer}
 use Rattle.path_search.specs.Right.{Joins, Chosen, Right, chosen, no-chain}
+use Rattle.path_search.specs.Rounds.{Shows, distance}
+use Rattle.path_search.specs.Needed.{most-needed}
+use Rattle.path_search.specs.RightRounds.{FigureRight, needs, none-leads, RoundsRight}
 use Rattle.path_search.proofs.Chains.{Way, reaches-iff}
 use Rattle.path_search.proofs.Loops.{NodesBelow}
 use Rattle.path_search.proofs.Routes.{IsRoute, is-route-only, is-route-distinct, RouteView, found, no-chain as no-way, route-view}
 use Rattle.path_search.proofs.Paths.{chain-leads, route-path}
 use Rattle.path_search.proofs.Answers.{nodes-below}
+use Rattle.path_search.proofs.Needed.{fewest-needs, short-reached, most-right}
+use Rattle.path_search.proofs.DistanceLaws.{Says, fewest-are, none-yet, distance-says}
 
 module _ (g : Graph) (usable : ℕ → Bool) (source destination : ℕ) where
   joins-way : (path : List ℕ) → Joins g usable source destination path → Way g usable destination source path
@@ -107,3 +114,26 @@ pub find-route-right : (ends : LinkEnds) (set : LinkSet) (source destination : �
     → r ≡ answer (route (graph ends) (usable set) destination source) → Right (graph ends) (usable set) source destination r
 find-route-right ends set source destination in-range apart r e =
     subst (Right (graph ends) (usable set) source destination) (sym e) (answer-right (graph ends) (usable set) source destination apart (nodes-below ends in-range))
+
+-- what a figure of the rounds says of its node
+figure-right : (g : Graph) (usable : ℕ → Bool) (destination : ℕ) → NodesBelow g (suc last-node) → (v : ℕ) → v ≤ last-node
+    → FigureRight g usable destination v (distance g usable destination last-node v)
+figure-right g usable destination below v node = by (distance g usable destination last-node v) (distance-says g usable destination last-node v)
+  where
+    by : (d : ℕ) → Says g usable destination last-node v d → FigureRight g usable destination v d
+    by d (fewest-are k h r b) = needs k (fewest-needs g usable destination v k (record { leads = r; before = b }))
+    by d (none-yet u) =
+        none-leads (λ path j. let s = short-reached g usable destination below v node path (joins-way g usable v destination path j) in clash (s .2) (u (s .0) (s .1)))
+
+-- what `distances` promises is the right answer
+pub distances-right : (ends : LinkEnds) (set : LinkSet) (destination : ℕ) → InRange ends → (done : RoundsDone) → Shows (done .table) (distance (graph ends) (usable set) destination last-node)
+    → done .number ≡ suc (most-needed (graph ends) (usable set) destination) → done .reached ≡ false → RoundsRight (graph ends) (usable set) destination done
+distances-right ends set destination in-range done shows number last =
+    let below = nodes-below ends in-range in
+    record {
+      figure = λ v h. subst (FigureRight (graph ends) (usable set) destination v) (sym (shows v h)) (figure-right (graph ends) (usable set) destination below v h);
+      most = most-needed (graph ends) (usable set) destination;
+      most-needed = most-right (graph ends) (usable set) destination below;
+      number = number;
+      last = last;
+    }

@@ -55,9 +55,9 @@ struct AfterRound {
     reached: bool,
 }
 
-// The rounds that were gone: the figures after them, their number, and whether the last of them reached a node.
+// The rounds done so far: the figures after them, their number, and whether the last of them reached a node.
 #[repr(C)]
-pub struct RoundsGone {
+pub struct RoundsDone {
     pub table: [u32; NODES],
     pub number: u32,
     pub reached: bool,
@@ -108,18 +108,18 @@ fn start(destination: u32) -> [u32; NODES]
 }
 
 // One round more. It is counted, whether or not it reaches a node.
-fn next_round(ends: LinkEnds, set: LinkSet, gone: RoundsGone) -> RoundsGone
-    requires { ⌜ InRange ends ⌝ ∗ ⌜ gone .number ≤ last-node ⌝ }
-    ensures { λ r. ⌜ Shows (r .table) (spread (graph ends) (usable set) (figures (gone .table)) (gone .number) (ends .count)) ⌝ }
-    ensures { λ r. ⌜ r .number ≡ suc (gone .number) ⌝ }
-    ensures { λ r. ⌜ r .reached ≡ anyBelow (ends .count) (nearer (graph ends) (usable set) (figures (gone .table)) (gone .number)) ⌝ }
+fn next_round(ends: LinkEnds, set: LinkSet, done: RoundsDone) -> RoundsDone
+    requires { ⌜ InRange ends ⌝ ∗ ⌜ done .number ≤ last-node ⌝ }
+    ensures { λ r. ⌜ Shows (r .table) (spread (graph ends) (usable set) (figures (done .table)) (done .number) (ends .count)) ⌝ }
+    ensures { λ r. ⌜ r .number ≡ suc (done .number) ⌝ }
+    ensures { λ r. ⌜ r .reached ≡ anyBelow (ends .count) (nearer (graph ends) (usable set) (figures (done .table)) (done .number)) ⌝ }
 {
-    let before = gone.table;
-    let after = round(ends, set, before, gone.number);
+    let before = done.table;
+    let after = round(ends, set, before, done.number);
     let table = after.table;
-    RoundsGone {
+    RoundsDone {
         table,
-        number: gone.number + 1,
+        number: done.number + 1,
         reached: after.reached,
     }
 }
@@ -128,22 +128,22 @@ fn next_round(ends: LinkEnds, set: LinkSet, gone: RoundsGone) -> RoundsGone
 // the most links that any node needs from which a chain leads there. It goes in rounds from the destination and ends at the
 // first that reaches no node. It is exported so that a test in Rust can call it.
 #[no_mangle]
-pub extern "C" fn distances(ends: LinkEnds, set: LinkSet, destination: u32) -> RoundsGone
+pub extern "C" fn distances(ends: LinkEnds, set: LinkSet, destination: u32) -> RoundsDone
     requires { ⌜ InRange ends ⌝ }
     ensures { λ r. ⌜ Shows (r .table) (distance (graph ends) (usable set) destination last-node) ⌝ }
     ensures { λ r. ⌜ r .number ≡ suc (most-needed (graph ends) (usable set) destination) ⌝ }
     ensures { λ r. ⌜ r .reached ≡ false ⌝ }
 {
     let table = start(destination);
-    let mut gone = RoundsGone {
+    let mut done = RoundsDone {
         table,
         number: 0,
         reached: true,
     };
-    while gone.reached {
-        gone = next_round(ends, set, gone);
+    while done.reached {
+        done = next_round(ends, set, done);
     }
-    gone
+    done
 }
 
 // The lesser of two figures.
@@ -239,8 +239,8 @@ pub extern "C" fn find_route(ends: LinkEnds, set: LinkSet, source: u32, destinat
     requires { ⌜ InRange ends ⌝ }
     ensures { λ r. ⌜ r ≡ answer (route (graph ends) (usable set) destination source) ⌝ }
 {
-    let gone = distances(ends, set, destination);
-    let table = gone.table;
+    let done = distances(ends, set, destination);
+    let table = done.table;
     let least = least_end(ends, set, table, source);
     if least < MOST {
         walk(ends, set, table, source, least + 1)

@@ -9,6 +9,8 @@ pub const LINKS: usize = 64;
 pub const NODES: usize = 32;
 /// The most links of a path.
 pub const PATH_LINKS: usize = 31;
+/// The figure of a node from which no chain leads to the destination.
+pub const FAR: u32 = 32;
 
 #[repr(C)]
 #[derive(Clone, Copy)]
@@ -31,9 +33,22 @@ pub struct Path {
     pub links: [u32; PATH_LINKS],
 }
 
+/// The rounds of a search: for each node the fewest links to the destination, or `FAR`; their number; and whether the last
+/// reached a node.
+#[repr(C)]
+#[derive(Clone, Copy, Debug, PartialEq, Eq)]
+pub struct RoundsDone {
+    pub table: [u32; NODES],
+    pub number: u32,
+    pub reached: bool,
+}
+
 mod exported {
+    use super::{LinkEnds, LinkSet, Path, RoundsDone};
+
     extern "C" {
-        pub fn find_route(ends: super::LinkEnds, set: super::LinkSet, source: u32, destination: u32) -> super::Path;
+        pub fn find_route(ends: LinkEnds, set: LinkSet, source: u32, destination: u32) -> Path;
+        pub fn distances(ends: LinkEnds, set: LinkSet, destination: u32) -> RoundsDone;
     }
 }
 
@@ -52,7 +67,7 @@ impl Question {
         (0..self.ends.count).filter(move |&link| self.set.has[link] && self.ends.from[link] == node)
     }
 
-    /// The question, where it meets what `find_route` requires: at most 64 links, their nodes 0 to 31.
+    /// The question, where it meets what the compiled search requires: at most 64 links, their nodes 0 to 31.
     pub fn in_range(self) -> Option<InRange> {
         let node = |n: &u32| (*n as usize) < NODES;
         let count = self.ends.count;
@@ -61,7 +76,7 @@ impl Question {
     }
 }
 
-/// A question that meets what `find_route` requires.
+/// A question that meets what the compiled search requires.
 #[derive(Clone, Copy)]
 pub struct InRange(Question);
 
@@ -69,6 +84,12 @@ pub struct InRange(Question);
 pub fn find_route(InRange(q): &InRange) -> Path {
     // Safe: the question meets the `requires`, and the declaration is that of crates/path_search/src/lib.rt.
     unsafe { exported::find_route(q.ends, q.set, q.source, q.destination) }
+}
+
+/// The rounds beneath it.
+pub fn distances(InRange(q): &InRange) -> RoundsDone {
+    // Safe as above: `distances` requires the same.
+    unsafe { exported::distances(q.ends, q.set, q.destination) }
 }
 
 /// A list of links as the search answers it: zero past its last link, and no link where there is no route.

@@ -1,6 +1,7 @@
-//! Two searches written apart from the compiled one: all simple paths, one by one; and the lowest chain of each length.
+//! Two searches written apart from the compiled one: all simple paths, one by one; and the lowest chain of each length. And
+//! what its rounds are to answer, found without rounds.
 
-use crate::{Question, NODES, PATH_LINKS};
+use crate::{Question, RoundsDone, FAR, NODES, PATH_LINKS};
 
 /// All simple paths were more than could be tried.
 #[derive(Debug, PartialEq, Eq)]
@@ -76,4 +77,27 @@ pub fn by_length(question: &Question) -> Option<Vec<u32>> {
         lowest = next;
     }
     None
+}
+
+/// The fewest links between any two nodes, by the nodes that lie between; from there the links that each node needs to the
+/// destination, and one more than the most that any needs.
+pub fn without_rounds(question: &Question) -> RoundsDone {
+    let mut links = [[None; NODES]; NODES];
+    for from in 0..NODES {
+        for link in question.links_out(from as u32) {
+            links[from][question.ends.to[link] as usize] = Some(1);
+        }
+        links[from][from] = Some(0);
+    }
+    for between in 0..NODES {
+        for from in 0..NODES {
+            for to in 0..NODES {
+                let by = links[from][between].zip(links[between][to]).map(|(a, b): (u32, u32)| a + b);
+                links[from][to] = links[from][to].into_iter().chain(by).min();
+            }
+        }
+    }
+    let needed = links.map(|row| row.get(question.destination as usize).copied().flatten());
+    let most = needed.iter().copied().flatten().max().unwrap_or(0);
+    RoundsDone { table: needed.map(|links| links.unwrap_or(FAR)), number: most + 1, reached: false }
 }

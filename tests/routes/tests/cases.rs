@@ -1,6 +1,7 @@
-//! The compiled search on graphs whose routes are known.
+//! The compiled search on graphs whose routes are known, and the rounds beneath it.
 
-use routes_tests::{LinkEnds, LinkSet, Path, Question, LINKS, NODES, PATH_LINKS};
+use routes_tests::graphs::line_question;
+use routes_tests::{distances, LinkEnds, LinkSet, Path, Question, FAR, LINKS, NODES, PATH_LINKS};
 
 fn ask(links: &[(u32, u32)], source: u32, destination: u32) -> Question {
     let mut ends = LinkEnds { count: links.len(), from: [7; LINKS], to: [9; LINKS] };
@@ -62,4 +63,43 @@ fn nothing_to_use() {
     assert_eq!(find_route(&q), path(&[]));
     q.ends.count = 0;
     assert_eq!(find_route(&q), path(&[]));
+}
+
+fn rounds(q: &Question) -> u32 {
+    let done = distances(&q.in_range().unwrap());
+    assert!(!done.reached);
+    done.number
+}
+
+#[test]
+fn one_round_more_than_the_most_links_needed() {
+    // document 01's session: both other nodes are one link away, and the second round reaches nothing
+    assert_eq!(rounds(&ask(&[(0, 1), (1, 2), (0, 2)], 0, 2)), 2);
+    // a ring of 8 nodes both ways: the node opposite needs 4 links
+    let both_ways: Vec<(u32, u32)> = ring(8).into_iter().flat_map(|(a, b)| [(a, b), (b, a)]).collect();
+    assert_eq!(rounds(&ask(&both_ways, 0, 4)), 5);
+    // the longest: 31 rounds that each reach a node, and one that reaches none
+    assert_eq!(rounds(&line_question()), 32);
+    assert_eq!(rounds(&ask(&ring(NODES), 30, 31)), 32);
+}
+
+#[test]
+fn rounds_go_on_beyond_the_source() {
+    // 3 to 2 to 1 to 0: the source, node 1, is reached by the first round
+    let q = ask(&[(3, 2), (2, 1), (1, 0)], 1, 0);
+    assert_eq!(find_route(&q), path(&[2]));
+    let done = distances(&q.in_range().unwrap());
+    assert_eq!(done.table[..5], [0, 1, 2, 3, FAR]);
+    assert_eq!(done.number, 4);
+}
+
+#[test]
+fn one_round_that_reaches_nothing() {
+    let mut q = ask(&ring(5), 0, 3);
+    q.set.has = [false; LINKS];
+    assert_eq!(rounds(&q), 1);
+    q.ends.count = 0;
+    assert_eq!(rounds(&q), 1);
+    // a destination that no link can have
+    assert_eq!(rounds(&ask(&ring(5), 0, NODES as u32)), 1);
 }

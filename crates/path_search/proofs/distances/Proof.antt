@@ -21,18 +21,18 @@ use Rattle.path_search.proofs.distances.Statement.{statement}
 use Rattle.path_search.proofs.distances.Tie as tie
 
 module _ (g : Graph) (usable : ℕ → Bool) (destination : ℕ) where
-  -- n rounds were gone, each of which reached a node
+  -- n rounds are done, each of which reached a node
   record Going (table : List ℕ) (n : ℕ) : Type 0 where
     shows : Shows table (distance g usable destination n)
     node : ℕ
     needs : Fewest g usable destination node n
 
-  -- n rounds were gone, the last of which reached none
+  -- n rounds are done, the last of which reached none
   record Ended (table : List ℕ) (n : ℕ) : Type 0 where
     shows : Shows table (distance g usable destination last-node)
     number : n ≡ suc (most-needed g usable destination)
 
-  record Gone (table : List ℕ) (n : ℕ) (reached : Bool) : Type 0 where
+  record Done (table : List ℕ) (n : ℕ) (reached : Bool) : Type 0 where
     going : reached ≡ true → Going table n
     ended : reached ≡ false → Ended table n
 
@@ -41,7 +41,7 @@ module _ (g : Graph) (usable : ℕ → Bool) (destination : ℕ) where
     few = needs-few g usable destination below (going .node) n (going .needs)
 
     -- one round more
-    next : (after : List ℕ) (reached : Bool) → Shows after (spread g usable (figures table) n (g .count)) → reached ≡ anyBelow (g .count) (nearer g usable (figures table) n) → Gone after (suc n) reached
+    next : (after : List ℕ) (reached : Bool) → Shows after (spread g usable (figures table) n (g .count)) → reached ≡ anyBelow (g .count) (nearer g usable (figures table) n) → Done after (suc n) reached
     next after reached shows told =
         record {
           going = λ e. let v = reaches-needed g usable destination below n few (figures table) (going .shows) (sym told ∙ e) in record { shows = shown; node = v .0; needs = v .1 };
@@ -65,10 +65,10 @@ module _ (g : Graph) (usable : ℕ → Bool) (destination : ℕ) where
         shown v h = shows v h ∙ spread-is g usable destination below n few (figures table) (going .shows) v h
 
 abbrev Inv-loop : tie.InvT-loop
-Inv-loop ends set destination gone₀ gone = Gone (graph ends) (usable set) destination (gone .table) (gone .number) (gone .reached)
+Inv-loop ends set destination done₀ done = Done (graph ends) (usable set) destination (done .table) (done .number) (done .reached)
 
 abbrev μ-loop : tie.MeasureT-loop
-μ-loop ends set destination gone₀ gone = far - gone .number
+μ-loop ends set destination done₀ done = far - done .number
 
 start-requires : tie.Need-start-requires Inv-loop μ-loop
 start-requires c κs = search needs
@@ -90,25 +90,25 @@ next-round-requires : tie.Need-next-round-requires Inv-loop μ-loop
 next-round-requires c κs =
     let entry = c .before .before .before in
     let args = entry .args in
-    let gone = c .before .loop .gone in
-    (entry .pre, few (graph (args .ends)) (usable (args .set)) (args .destination) (nodes-below (args .ends) (entry .pre)) (gone .table) (gone .number) (c .before .loop .inv .going (c .loop-test .taken)))
+    let done = c .before .loop .done in
+    (entry .pre, few (graph (args .ends)) (usable (args .set)) (args .destination) (nodes-below (args .ends) (entry .pre)) (done .table) (done .number) (c .before .loop .inv .going (c .loop-test .taken)))
 
 loop-less : tie.Need-loop-less Inv-loop μ-loop
 loop-less c =
     let entry = c .before .before .before .before in
     let args = entry .args in
-    let gone = c .before .before .loop .gone in
-    let early = few (graph (args .ends)) (usable (args .set)) (args .destination) (nodes-below (args .ends) (entry .pre)) (gone .table) (gone .number) (c .before .before .loop .inv .going (c .before .loop-test .taken)) in
+    let done = c .before .before .loop .done in
+    let early = few (graph (args .ends)) (usable (args .set)) (args .destination) (nodes-below (args .ends) (entry .pre)) (done .table) (done .number) (c .before .before .loop .inv .going (c .before .loop-test .taken)) in
     omega (arith, c .next-round .ensures .1 .0)
 
 loop-again : tie.Need-loop-again Inv-loop μ-loop
 loop-again c =
     let entry = c .before .before .before .before in
     let args = entry .args in
-    let gone = c .before .before .loop .gone in
+    let done = c .before .before .loop .done in
     let after = c .next-round .result in
-    subst (λ n. Gone (graph (args .ends)) (usable (args .set)) (args .destination) (after .table) n (after .reached)) (sym (c .next-round .ensures .1 .0))
-    (next (graph (args .ends)) (usable (args .set)) (args .destination) (nodes-below (args .ends) (entry .pre)) (gone .table) (gone .number) (c .before .before .loop .inv .going (c .before .loop-test .taken))
+    subst (λ n. Done (graph (args .ends)) (usable (args .set)) (args .destination) (after .table) n (after .reached)) (sym (c .next-round .ensures .1 .0))
+    (next (graph (args .ends)) (usable (args .set)) (args .destination) (nodes-below (args .ends) (entry .pre)) (done .table) (done .number) (c .before .before .loop .inv .going (c .before .loop-test .taken))
     (after .table) (after .reached) (c .next-round .ensures .0) (c .next-round .ensures .1 .1))
 
 returns : tie.Need-returns Inv-loop μ-loop

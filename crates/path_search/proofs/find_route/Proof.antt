@@ -21,10 +21,10 @@ walk-requires : tie.Need-walk-requires
 walk-requires c κs =
     let from = c .before .before .before .before in
     let args = from .args in
-    let gone = c .before .before .before .distances in
+    let done = c .before .before .before .distances in
     let least = c .before .least-end in (
       from .pre,
-      walkable (graph (args .ends)) (usable (args .set)) (args .destination) (nodes-below (args .ends) (from .pre)) (figures (gone .result .table)) (gone .ensures .0) (args .source) (least .result)
+      walkable (graph (args .ends)) (usable (args .set)) (args .destination) (nodes-below (args .ends) (from .pre)) (figures (done .result .table)) (done .ensures .0) (args .source) (least .result)
           (least .ensures) (c .if1 .taken),
     )
 
@@ -35,10 +35,10 @@ returns : tie.Need-returns
 returns c =
     let from = c .before .before .before .before .before in
     let args = from .args in
-    let gone = c .before .before .before .before .distances in
+    let done = c .before .before .before .before .distances in
     let least = c .before .before .least-end in
     let found =
-    route-is (graph (args .ends)) (usable (args .set)) (args .destination) (nodes-below (args .ends) (from .pre)) (figures (gone .result .table)) (gone .ensures .0) (args .source) (least .result)
+    route-is (graph (args .ends)) (usable (args .set)) (args .destination) (nodes-below (args .ends) (from .pre)) (figures (done .result .table)) (done .ensures .0) (args .source) (least .result)
     (least .ensures) (c .before .if1 .taken) in
     c .walk .ensures ∙ sym (ap answer found)
 
@@ -46,10 +46,10 @@ returns-2 : tie.Need-returns-2
 returns-2 c =
     let from = c .before .before .before .before .before in
     let args = from .args in
-    let gone = c .before .before .before .before .distances in
+    let done = c .before .before .before .before .distances in
     let least = c .before .before .least-end in
     let none-found =
-    route-none (graph (args .ends)) (usable (args .set)) (args .destination) (nodes-below (args .ends) (from .pre)) (figures (gone .result .table)) (gone .ensures .0) (args .source) (least .result)
+    route-none (graph (args .ends)) (usable (args .set)) (args .destination) (nodes-below (args .ends) (from .pre)) (figures (done .result .table)) (done .ensures .0) (args .source) (least .result)
     (least .ensures) (c .before .if1 .left) in
     c .no-path .ensures ∙ sym (ap answer none-found)
 
