@@ -12,42 +12,26 @@ use timing::least;
 const GRAPHS: u64 = 1_024;
 
 /// A way to answer a question.
-type Way = fn(&Asked) -> Path;
-
-/// A question, and the same as the compiled search takes it.
-struct Asked {
-    question: Question,
-    in_range: InRange,
-}
-
-impl Asked {
-    fn new(question: Question) -> Asked {
-        Asked { question, in_range: question.in_range().unwrap() }
-    }
-}
-
-fn compiled(asked: &Asked) -> Path {
-    find_route(&asked.in_range)
-}
+type Way = fn(&InRange) -> Path;
 
 /// The compiled search of an earlier revision.
 #[cfg(before)]
-fn before(asked: &Asked) -> Path {
+fn before(asked: &InRange) -> Path {
     use routes_tests::{LinkEnds, LinkSet};
     extern "C" {
         fn find_route_before(ends: LinkEnds, set: LinkSet, source: u32, destination: u32) -> Path;
     }
-    let q = &asked.question;
+    let q = asked.question();
     // Safe: the question is in range, and the search's declaration has not changed.
     unsafe { find_route_before(q.ends, q.set, q.source, q.destination) }
 }
 
-fn same_rounds(asked: &Asked) -> Path {
-    on_arrays(&asked.question, rounds)
+fn same_rounds(asked: &InRange) -> Path {
+    on_arrays(asked.question(), rounds)
 }
 
-fn with_queue(asked: &Asked) -> Path {
-    on_arrays(&asked.question, queue)
+fn with_queue(asked: &InRange) -> Path {
+    on_arrays(asked.question(), queue)
 }
 
 /// Plain Rust with no list on the heap.
@@ -62,8 +46,8 @@ fn on_arrays(q: &Question, distances: impl Fn(Ends, &Usable, u32) -> Distances) 
 }
 
 /// Breadth-first from the destination, then the lowest link that leads one nearer.
-fn on_the_heap(asked: &Asked) -> Path {
-    let q = &asked.question;
+fn on_the_heap(asked: &InRange) -> Path {
+    let q = asked.question();
     let mut links_in: Vec<Vec<usize>> = vec![Vec::new(); NODES];
     for link in 0..q.ends.count {
         if q.set.has[link] {
@@ -98,9 +82,9 @@ fn on_the_heap(asked: &Asked) -> Path {
 
 /// Times every way on the questions, and prints the compiled search's time beside each.
 fn run(what: &str, questions: impl Iterator<Item = Question>) {
-    let asked: Vec<Asked> = questions.map(Asked::new).collect();
+    let asked: Vec<InRange> = questions.map(|q| q.in_range().unwrap()).collect();
     let ways: &[(&str, Way)] = &[
-        ("compiled", compiled),
+        ("compiled", find_route),
         #[cfg(before)]
         ("compiled before", before),
         ("same rounds", same_rounds),
@@ -109,7 +93,7 @@ fn run(what: &str, questions: impl Iterator<Item = Question>) {
     ];
     for (name, way) in ways {
         for (seed, asked) in asked.iter().enumerate() {
-            assert_eq!(way(asked), compiled(asked), "{what}, {name}, seed {seed}");
+            assert_eq!(way(asked), find_route(asked), "{what}, {name}, seed {seed}");
         }
     }
     let each = |way: &Way| {

@@ -80,6 +80,12 @@ impl Question {
 #[derive(Clone, Copy)]
 pub struct InRange(Question);
 
+impl InRange {
+    pub fn question(&self) -> &Question {
+        &self.0
+    }
+}
+
 /// The compiled search.
 pub fn find_route(InRange(q): &InRange) -> Path {
     // Safe: the question meets the `requires`, and the declaration is that of crates/path_search/src/lib.rt.
