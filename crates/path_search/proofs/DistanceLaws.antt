@@ -23,7 +23,7 @@ module _ (g : Graph) (usable : ℕ → Bool) (target : ℕ) where
 
   -- what a figure says of node v after n rounds
   pub data Says (n v : ℕ) : ℕ → Type 0 where
-    fewest-are : (d : ℕ) → d ≤ n → reached d v ≡ true → ((m : ℕ) → m < d → reached m v ≡ false) → Says n v d
+    fewest-are : (d : ℕ) → d ≤ n → Fewest g usable target v d → Says n v d
     none-yet : ((m : ℕ) → m ≤ n → reached m v ≡ false) → Says n v far
 
   pub distance-says : (n v : ℕ) → Says n v (distance g usable target n v)
@@ -33,13 +33,13 @@ module _ (g : Graph) (usable : ℕ → Bool) (target : ℕ) where
       by : (f : Found) → firstFrom 0 (suc n) (λ k. reached k v) ≡ f → Says n v (figure-of f)
       by (at d) e =
           let r : IsFirst 0 (suc n) (λ k. reached k v) d = firstFrom-found (λ k. reached k v) 0 (suc n) e in
-          fewest-are d (omega arith) (r .passes) (λ m a. r .before m zero-le a)
+          fewest-are d (omega arith) (record { leads = r .passes; before = λ m a. r .before m zero-le a })
       by nothing e = none-yet (λ m a. firstFrom-none (λ k. reached k v) 0 (suc n) e m zero-le (omega arith))
 
   distance-is : (n v d : ℕ) → Says n v d → distance g usable target n v ≡ d
   unfolding distance
-  distance-is n v d (fewest-are k h r b) =
-      ap figure-of (firstFrom-first (λ j. reached j v) 0 (suc n) k (record { low = zero-le; high = omega arith; passes = r; before = λ j z a. b j a }))
+  distance-is n v d (fewest-are k h f) =
+      ap figure-of (firstFrom-first (λ j. reached j v) 0 (suc n) k (record { low = zero-le; high = omega arith; passes = f .leads; before = λ j z a. f .before j a }))
   distance-is n v d (none-yet u) = ap figure-of (firstFrom-nothing (λ j. reached j v) 0 (suc n) (λ j z a. u j (omega arith)))
 
   -- before the first round
@@ -70,7 +70,7 @@ module _ (g : Graph) (usable : ℕ → Bool) (target : ℕ) where
         reaches-step g usable target n v (s .0) (record { known = s .1; begins = o .0; usable = o .1 .0 .0 }) (by (figure (g .to (s .0))) (says (g .to (s .0)) (to-node (s .0) (s .1))) (o .1 .0 .1))
       where
         by : {w : ℕ} (d : ℕ) → Says n w d → d ≡ n → reached n w ≡ true
-        by {w} d (fewest-are k h r b) e = subst (λ j. reached j w ≡ true) e r
+        by {w} d (fewest-are k h f) e = subst (λ j. reached j w ≡ true) e (f .leads)
         by {w} d (none-yet u) e = absurd (omega arith)
 
     reached-leads : (v : ℕ) → v ≤ last-node → ((m : ℕ) → m ≤ n → reached m v ≡ false) → figure v ≡ far → reached (suc n) v ≡ true → anyBelow (g .count) (leads v) ≡ true
@@ -82,8 +82,8 @@ module _ (g : Graph) (usable : ℕ → Bool) (target : ℕ) where
         some-anyBelow (leads v) (g .count) l known (out-tells g usable figure n v l .1 (s .1 .begins, ((s .1 .usable, at-n), let z : figure (g .from l) ≡ far = ap figure (s .1 .begins) ∙ f in omega arith)))
       where
         by : (l : ℕ) → Leaves g (λ k. usable k ≡ true) v l → (d : ℕ) → Says n (g .to l) d → reached n (g .to l) ≡ true → d ≡ n
-        by l o d (fewest-are k h r b) t =
-            elim (ℕ-discrete k n) [ yes e ↦ e | no e ↦ clash (reaches-step g usable target k v l o r) (u (suc k) (omega arith)) ]
+        by l o d (fewest-are k h f) t =
+            elim (ℕ-discrete k n) [ yes e ↦ e | no e ↦ clash (reaches-step g usable target k v l o (f .leads)) (u (suc k) (omega arith)) ]
         by l o d (none-yet w) t = clash t (w n (le-refl n))
 
     -- a round makes the next distances of them
@@ -92,9 +92,9 @@ module _ (g : Graph) (usable : ℕ → Bool) (target : ℕ) where
     spread-is v h = by (figure v) (says v h) refl (anyBelow (g .count) (leads v)) refl
       where
         by : (d : ℕ) → Says n v d → figure v ≡ d → (t : Bool) → anyBelow (g .count) (leads v) ≡ t → elim t [ true ↦ suc n | false ↦ figure v ] ≡ distance g usable target (suc n) v
-        by d (fewest-are k a r b) e true q = let z = reached-beyond g usable figure n (g .count) v q in absurd (omega arith)
-        by d (fewest-are k a r b) e false q = e ∙ sym (distance-is (suc n) v k (fewest-are k (omega arith) r b))
-        by d (none-yet u) e true q = sym (distance-is (suc n) v (suc n) (fewest-are (suc n) (le-refl _) (leads-reached v q) (λ m a. u m (omega arith))))
+        by d (fewest-are k a f) e true q = let z = reached-beyond g usable figure n (g .count) v q in absurd (omega arith)
+        by d (fewest-are k a f) e false q = e ∙ sym (distance-is (suc n) v k (fewest-are k (omega arith) f))
+        by d (none-yet u) e true q = sym (distance-is (suc n) v (suc n) (fewest-are (suc n) (le-refl _) (record { leads = leads-reached v q; before = λ m a. u m (omega arith) })))
         by d (none-yet u) e false q = e ∙ sym (distance-is (suc n) v far (none-yet later))
           where
             later : (m : ℕ) → m ≤ suc n → reached m v ≡ false
@@ -118,7 +118,7 @@ module _ (g : Graph) (usable : ℕ → Bool) (target : ℕ) where
         )
       where
         by : (v d : ℕ) → Says n v d → n < d → (m : ℕ) → m < suc n → reached m v ≡ false
-        by v d (fewest-are k h r b) z m a = absurd (omega arith)
+        by v d (fewest-are k h f) z m a = absurd (omega arith)
         by v d (none-yet u) z m a = u m (omega arith)
 
     -- the round reaches no node
@@ -131,15 +131,15 @@ module _ (g : Graph) (usable : ℕ → Bool) (target : ℕ) where
           by v (s .0) (s .1) (within m (g .to (s .0)) (s .2)) (figure (g .to (s .0))) (says (g .to (s .0)) (to-node (s .0) (s .1 .known))) refl
         where
           from-figure : (w : ℕ) (d : ℕ) → Says n w d → ¬ (n < d) → (k : ℕ) × (k ≤ n) × (reached k w ≡ true)
-          from-figure w d (fewest-are k a r b) h = (k, a, r)
+          from-figure w d (fewest-are k a f) h = (k, a, f .leads)
           from-figure w d (none-yet u) h = absurd (h (omega arith))
 
           by : (v l : ℕ) → Leaves g (λ k. usable k ≡ true) v l → ((d : ℕ) × (d ≤ n) × (reached d (g .to l) ≡ true)) → (d : ℕ) → Says n (g .to l) d → figure (g .to l) ≡ d
               → (d : ℕ) × (d ≤ n) × (reached d v ≡ true)
           by v l o w d (none-yet u) e = clash (w .2) (u (w .0) (w .1))
-          by v l o w d (fewest-are k a r b) e =
+          by v l o w d (fewest-are k a f) e =
               elim (ℕ-discrete k n) [
-                | no q ↦ (suc k, omega arith, reaches-step g usable target k v l o r)
+                | no q ↦ (suc k, omega arith, reaches-step g usable target k v l o (f .leads))
                 | yes q ↦ subst (λ x. (d : ℕ) × (d ≤ n) × (reached d x ≡ true)) (o .begins)
                     (from-figure (g .from l) (figure (g .from l)) (says (g .from l) (let z = below .from-below l (o .known) in omega arith))
                     (λ z. clash (some-anyBelow (nearer g usable figure n) (g .count) l (o .known) (nearer-tells g usable figure n l .1 ((o .usable, e ∙ q), z))) stop))
@@ -150,7 +150,7 @@ module _ (g : Graph) (usable : ℕ → Bool) (target : ℕ) where
       settled m v h = distance-is m v (distance g usable target n v) (by (distance g usable target n v) (distance-says n v))
         where
           by : (d : ℕ) → Says n v d → Says m v d
-          by d (fewest-are k a r b) = fewest-are k (omega arith) r b
+          by d (fewest-are k a f) = fewest-are k (omega arith) f
           by d (none-yet u) = none-yet (λ j a. not-true (reached j v) (λ t. let w = within j v t in clash (w .2) (u (w .0) (w .1))))
 
       -- so that no node needs more than n links

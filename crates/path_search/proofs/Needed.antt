@@ -2,7 +2,6 @@
 -- give.
 use mathlib.Core.Path.{_≡_, refl, sym, _∙_, ap, subst}
 use mathlib.Core.Logic.{_⊎_, inl, inr}
-use mathlib.Core.List.{List}
 use mathlib.Core.Bool.{Bool, true, false}
 use Prim.Native.Nat.{ℕ, zero, suc, _≤_, _<_, zero-le, suc-le-suc, max}
 use native.Mathlib.Nat.{le-antisymm}
@@ -15,8 +14,9 @@ use Rattle.units.specs.Search.{Found, at, nothing}
 use Rattle.units.proofs.Search.{IsFirst, firstFrom-found, firstFrom-first, clash, not-true}
 use Rattle.path_search.specs.Paths.{Graph, reaches}
 use Rattle.path_search.specs.Needed.{counted, needed, most-below, most-needed, Needs, MostNeeded}
-use Rattle.path_search.proofs.Chains.{Way, reaches-first, reaches-iff, chain-reaches}
-use Rattle.path_search.proofs.Loops.{NodesBelow, simple, simple-short}
+use Rattle.path_search.proofs.Chains.{reaches-first, reaches-iff, chain-reaches}
+use Rattle.path_search.proofs.Loops.{NodesBelow}
+use Rattle.path_search.proofs.Routes.{short-way}
 use Rattle.path_search.proofs.Paths.{chain-leads}
 
 module _ (g : Graph) (usable : ℕ → Bool) (destination : ℕ) where
@@ -104,13 +104,6 @@ module _ (g : Graph) (usable : ℕ → Bool) (destination : ℕ) where
       by ih nothing e = let z : most n ≡ max 0 (most n) = omega arith in subst Met z ih
 
   module _ (below : NodesBelow g (suc last-node)) where
-    -- where a chain of any length leads from a node, one of at most 31 links does
-    pub short-reached : (v : ℕ) → v ≤ last-node → (path : List ℕ) → Way g usable destination v path → (n : ℕ) × (n ≤ last-node) × (reached n v ≡ true)
-    short-reached v node path w =
-        let s = simple g Usable destination v path w .0 in
-        let short = simple-short g Usable destination (suc last-node) below v (suc-le-suc node) s in
-        (length (s .path), omega arith, chain-reaches g usable destination v (s .path) (s .chain))
-
     -- a node that needs a link is one of 0 to 31
     some-needed : (v n : ℕ) → Fewest v (suc n) → v ≤ last-node
     some-needed v n f = let l = reaches-first g usable destination n v (f .leads) in let b = below .from-below (l .0) (l .1 .known) in omega (arith, l .1 .begins)
@@ -120,8 +113,8 @@ module _ (g : Graph) (usable : ℕ → Bool) (destination : ℕ) where
     needs-few v zero f = zero-le
     needs-few v (suc n) f =
         let r = reaches-iff g usable destination (suc n) v .0 (f .leads) in
-        let s = short-reached v (some-needed v n f) (r .0) (r .2) in
-        elim (decLt (s .0) (suc n)) [ yes k ↦ clash (s .2) (f .before (s .0) k) | no k ↦ omega (arith, s .1) ]
+        let s = short-way g usable destination v below (some-needed v n f) (r .0) (r .2) in
+        elim (decLt (length (s .0)) (suc n)) [ yes k ↦ clash (chain-reaches g usable destination v (s .0) (s .1)) (f .before (length (s .0)) k) | no k ↦ omega (arith, s .2) ]
 
     fewest-bound : (v n : ℕ) → Fewest v n → n ≤ most-needed g usable destination
     unfolding needed

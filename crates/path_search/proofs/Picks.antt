@@ -99,7 +99,7 @@ module _ (g : Graph) (usable : ℕ → Bool) (target : ℕ) (below : NodesBelow 
       by (figure (g .to (s .0))) (end-says (s .0) (s .1 .known)) (s .2) most)
     where
       by : {w : ℕ} (d : ℕ) → Says g usable target last-node w d → reached i w ≡ true → least-of v ≤ d → ⊥
-      by d (fewest-are m a r b) t most = clash t (b i (omega arith))
+      by d (fewest-are m a f) t most = clash t (f .before i (omega arith))
       by d (none-yet u) t most = clash t (u i k)
 
   before : (v n : ℕ) → n ≤ suc last-node → n ≤ least-of v → (j : ℕ) → 1 ≤ j → j ≤ n → reached j v ≡ false
@@ -114,7 +114,7 @@ module _ (g : Graph) (usable : ℕ → Bool) (target : ℕ) (below : NodesBelow 
         reaches-step g usable target (least-of v) v (s .0) (record { known = s .1; begins = eqb-true _ _ (o .0); usable = o .1 }) (by (figure (g .to (s .0))) (end-says (s .0) (s .1)) (s .3))
       where
         by : {w : ℕ} (d : ℕ) → Says g usable target last-node w d → d ≡ least-of v → reached (least-of v) w ≡ true
-        by {w} d (fewest-are m a r b) e = subst (λ j. reached j w ≡ true) e r
+        by {w} d (fewest-are m a f) e = subst (λ j. reached j w ≡ true) e (f .leads)
         by d (none-yet u) e = absurd (omega arith)
 
     fewest-is : fewest g usable target v ≡ at (suc (least-of v))
@@ -133,13 +133,13 @@ module _ (g : Graph) (usable : ℕ → Bool) (target : ℕ) (below : NodesBelow 
     figure-tells l o = by (figure (g .to l)) (end-says l (o .known))
       where
         by : (d : ℕ) → Says g usable target last-node (g .to l) d → eqb d n ≡ reached n (g .to l)
-        by d (fewest-are m a r b) =
+        by d (fewest-are m a f) =
             elim (ℕ-discrete m n) [
-              | yes e ↦ eq-eqb m n e ∙ sym (subst (λ j. reached j (g .to l) ≡ true) e r)
+              | yes e ↦ eq-eqb m n e ∙ sym (subst (λ j. reached j (g .to l) ≡ true) e (f .leads))
               | no e ↦ ne-eqb m n e
                   ∙ sym (elim (decLt n m) [
-                    | yes c ↦ b n c
-                    | no c ↦ clash (reaches-step g usable target m v l o r) (least (suc m) (omega arith) (omega arith))
+                    | yes c ↦ f .before n c
+                    | no c ↦ clash (reaches-step g usable target m v l o (f .leads)) (least (suc m) (omega arith) (omega arith))
                   ])
             ]
         by d (none-yet u) = ne-eqb far n (λ e. omega arith) ∙ sym (u n (omega arith))

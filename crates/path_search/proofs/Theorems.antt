@@ -23,12 +23,12 @@ use Rattle.path_search.specs.Right.{Joins, Chosen, Right, chosen, no-cha
 use Rattle.path_search.specs.Rounds.{Shows, distance}
 use Rattle.path_search.specs.Needed.{most-needed}
 use Rattle.path_search.specs.RightRounds.{FigureRight, needs, none-leads, RoundsRight}
-use Rattle.path_search.proofs.Chains.{Way, reaches-iff}
+use Rattle.path_search.proofs.Chains.{Way, chain-reaches, reaches-iff}
 use Rattle.path_search.proofs.Loops.{NodesBelow}
-use Rattle.path_search.proofs.Routes.{IsRoute, is-route-only, is-route-distinct, RouteView, found, no-chain as no-way, route-view}
+use Rattle.path_search.proofs.Routes.{short-way, IsRoute, is-route-only, is-route-distinct, RouteView, found, no-chain as no-way, route-view}
 use Rattle.path_search.proofs.Paths.{chain-leads, route-path}
 use Rattle.path_search.proofs.Answers.{nodes-below}
-use Rattle.path_search.proofs.Needed.{fewest-needs, short-reached, most-right}
+use Rattle.path_search.proofs.Needed.{fewest-needs, most-right}
 use Rattle.path_search.proofs.DistanceLaws.{Says, fewest-are, none-yet, distance-says}
 
 module _ (g : Graph) (usable : ℕ → Bool) (source destination : ℕ) where
@@ -121,9 +121,9 @@ figure-right : (g : Graph) (usable : ℕ → Bool) (destination : ℕ) → Nodes
 figure-right g usable destination below v node = by (distance g usable destination last-node v) (distance-says g usable destination last-node v)
   where
     by : (d : ℕ) → Says g usable destination last-node v d → FigureRight g usable destination v d
-    by d (fewest-are k h r b) = needs k (fewest-needs g usable destination v k (record { leads = r; before = b }))
+    by d (fewest-are k h f) = needs k (fewest-needs g usable destination v k f)
     by d (none-yet u) =
-        none-leads (λ path j. let s = short-reached g usable destination below v node path (joins-way g usable v destination path j) in clash (s .2) (u (s .0) (s .1)))
+        none-leads (λ path j. let s = short-way g usable destination v below node path (joins-way g usable v destination path j) in clash (chain-reaches g usable destination v (s .0) (s .1)) (u (length (s .0)) (s .2)))
 
 -- what `distances` promises is the right answer
 pub distances-right : (ends : LinkEnds) (set : LinkSet) (destination : ℕ) → InRange ends → (done : RoundsDone) → Shows (done .table) (distance (graph ends) (usable set) destination last-node)
@@ -133,7 +133,7 @@ distances-right ends set destination in-range done shows number last =
     record {
       figure = λ v h. subst (FigureRight (graph ends) (usable set) destination v) (sym (shows v h)) (figure-right (graph ends) (usable set) destination below v h);
       most = most-needed (graph ends) (usable set) destination;
-      most-needed = most-right (graph ends) (usable set) destination below;
+      is-most = most-right (graph ends) (usable set) destination below;
       number = number;
       last = last;
     }

@@ -81,6 +81,7 @@ impl Question {
 pub struct InRange(Question);
 
 impl InRange {
+    /// The question itself, for other searches.
     pub fn question(&self) -> &Question {
         &self.0
     }
