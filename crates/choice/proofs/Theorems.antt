@@ -1,14 +1,15 @@
 -- The theorems on the choice, for links whose nodes are 0 to 31 and a source that is not the destination.
-use mathlib.Core.Path.{_≡_, refl, sym, ap, subst}
+use mathlib.Core.Path.{_≡_, refl, sym, _∙_, ap, subst}
 use mathlib.Core.Logic.{_≢_, _↔_, _⊎_}
 use mathlib.Core.List.{List, List·Memᴰ}
 use mathlib.Core.Bool.{Bool, true}
 use Prim.Native.Nat.{ℕ, suc, _+_, _≤_, _<_}
-use native.Mathlib.Nat.{le-refl, le-antisymm}
+use native.Mathlib.Nat.{le-refl, le-trans, le-antisymm}
+use native.Mathlib.Decide.{decLt}
 use native.Mathlib.Omega.{arith}
 use Rattle.units.specs.Limits.{last-node}
 use Rattle.units.proofs.Tests.{Tells, at-most}
-use Rattle.units.proofs.Search.{allFrom-all, all-allFrom}
+use Rattle.units.proofs.Search.{clash, allFrom-all, all-allFrom}
 use Rattle.units.proofs.Parts.{all-map, all-at}
 use Rattle.timeline.specs.Events.{events}
 use Rattle.timeline.proofs.Steady.{ChangesAt}
@@ -23,10 +24,11 @@ use Rattle.path_search.proofs.Loops.{NodesBelow}
 use Rattle.path_search.proofs.Paths.{chain-leads}
 use Rattle.path_search.proofs.Answers.{nodes-below}
 use Rattle.choice.specs.declared.Chosen.{Chosen}
-use Rattle.choice.specs.Choice.{Choice, granted, choose}
+use Rattle.choice.specs.Choice.{Grant, Choice, granted, possible, choose}
 use Rattle.choice.specs.Answer.{suffices, carries, Askable, start-with, refusal, chosen}
-use Rattle.choice.specs.Right.{FreeThroughout, CarriedBy, Best, NonePossible, Right, best, none-possible}
+use Rattle.choice.specs.Right.{NowhereLower, FreeThroughout, CarriedBy, Best, NonePossible, Right, best, none-possible}
 use Rattle.choice.proofs.Choice.{IsGrant, is-grant-only, ChoiceView, grants, grants-none, choose-view}
+use Rattle.choice.proofs.Starts.{possible-more, granted≢no-start, ChoiceFound, found, none-found, choice-found}
 
 -- a start is no refusal
 started-refused : {X : Type 0} (start : ℕ) (path : Path) → start-with (record { 0 = start }) path ≡ refusal → X
@@ -154,6 +156,28 @@ module _ (g : Graph) (figure : ℕ → ℕ → ℕ) (bandwidth duration source d
                 lower = λ other h. i .is-route .lowest other (carried-way (d .start) other h);
               })
           by x (grants-none h) = none-possible (λ m path w k. h m path (w .0) (w .1) (carried-way m path k))
+
+-- ---- figures that are nowhere lower
+
+module _ (g : Graph) (before after : ℕ → ℕ → ℕ) (more : NowhereLower before after) (bandwidth duration source destination : ℕ) where
+  -- They make no start impossible. The figures are any: what is free, what of it one holder may have, or 0 under a closure.
+  pub stays-possible : (m : ℕ) → possible g (carries before bandwidth duration) source destination m ≡ true → possible g (carries after bandwidth duration) source destination m ≡ true
+  stays-possible m =
+      possible-more g (carries before bandwidth duration) (carries after bandwidth duration) source destination m m
+      (λ l e. carries-tells g after bandwidth duration source destination m l .1 (λ k a b. le-trans (carries-tells g before bandwidth duration source destination m l .0 e k a b) (more l k)))
+
+  -- So where a start was chosen one is, and it is no later.
+  pub chosen-no-later : (low latest : ℕ) (c : Grant) → choose g (carries before bandwidth duration) source destination low latest ≡ granted c
+      → (d : Grant) × (choose g (carries after bandwidth duration) source destination low latest ≡ granted d) × (d .start ≤ c .start)
+  chosen-no-later low latest c e = by (choice-found g (carries before bandwidth duration) source destination low latest) (choice-found g (carries after bandwidth duration) source destination low latest)
+    where
+      by : ChoiceFound g (carries before bandwidth duration) source destination low latest → ChoiceFound g (carries after bandwidth duration) source destination low latest
+          → (d : Grant) × (choose g (carries after bandwidth duration) source destination low latest ≡ granted d) × (d .start ≤ c .start)
+      by (none-found h q) x = granted≢no-start (sym e ∙ q)
+      by (found b f q) (none-found h r) = clash (stays-possible (b .start) (f .passes)) (h (b .start) (f .low) (omega (arith, f .high)))
+      by (found b f q) (found d i r) =
+          let same : b ≡ c = cc in
+          (d, r, elim (decLt (b .start) (d .start)) [ yes k ↦ clash (stays-possible (b .start) (f .passes)) (i .before (b .start) (f .low) k) | no k ↦ omega (arith, ap (λ (x : Grant). x .start) same) ])
 
 -- What `choose` promises is right, by the figures that the lent tables keep.
 pub promise-right : (ends : LinkEnds) (es t : List ℕ) (bandwidth duration source destination low latest : ℕ) → Askable ends es t duration low latest → source ≢ destination → source ≤ last-node

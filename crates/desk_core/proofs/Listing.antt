@@ -29,7 +29,7 @@ use Rattle.desk_core.specs.Listing.{PossibleAt, RightListing, EveryStart
 use Rattle.desk_core.proofs.Uses.{all-times}
 use Rattle.desk_core.proofs.Checks.{starts≢refuse, Passed, passed-answer, passed-done}
 use Rattle.desk_core.proofs.Tests.{links-tell, nodes-below, RequestRight, request-right}
-use Rattle.desk_core.proofs.Choices.{choice, carries-tells, way-path, path-way}
+use Rattle.desk_core.proofs.Choices.{choice, chosen-none, chosen-granted, carries-tells, way-path, path-way}
 use Rattle.desk_core.proofs.Obeys.{sound-obeys, few-events}
 use Rattle.desk_core.proofs.EventsSuffice.{carries-back}
 use Rattle.desk_core.proofs.Replies.{replies, replies-after}
@@ -77,14 +77,6 @@ module _ (links : List Link) (p : Plain) (r : Request) (o : Obeys links p) (q : 
       found-at m w = (w .0 .0, w .0 .1, possible-tells m .1 (w .1))
 
 -- ---- the listing and the offer
-
-chosen-none : (c : Choice) {k : ℕ} → chosen c ≡ refuse k → c ≡ no-start
-chosen-none (granted g) e = starts≢refuse e
-chosen-none no-start e = refl
-
-chosen-granted : (c : Choice) (g : Grant) → chosen c ≡ starts g → c ≡ granted g
-chosen-granted (granted h) g e = let q : h ≡ g = cc in ap granted q
-chosen-granted no-start g e = starts≢refuse (sym e)
 
 module _ (links : List Link) (p : Plain) (r : Request) where
   none-listed : (every links p r ≡ []) ↔ (best links p r ≡ refuse 8)

@@ -18,10 +18,11 @@ use Rattle.choice.specs.declared.Chosen.{Chosen}
 use Rattle.choice.specs.Choice.{Choice, possible, choose}
 use Rattle.choice.specs.Answer.{chosen}
 use Rattle.choice.proofs.Answers.{started, none-started}
+use Rattle.choice.proofs.Starts.{ChoiceFound, found, none-found, choice-found}
 use Rattle.listing.specs.Ranges.{Range, rangesFrom, ranges, figures, list-table, start-or}
 use Rattle.listing.specs.Right.{RunEnd}
 use Rattle.listing.proofs.Laws.{IsRange, AreRanges, fails-first, are-ranges, are-only}
-use Rattle.listing.proofs.Theorems.{ChoiceFound, found, none-found, choice-found, ranges-are, ranges-fit}
+use Rattle.listing.proofs.Theorems.{ranges-are, ranges-fit}
 
 -- ---- the start of a choice, or the minute after the window
 

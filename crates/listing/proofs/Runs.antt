@@ -57,7 +57,7 @@ module _ (g : Graph) (es t : List ℕ) (bandwidth duration from to c : ℕ) (ts 
 
     pub goes-on : (m : ℕ) → last ≤ m → m + duration - 1 ≤ bound → test last ≡ true → test m ≡ true
     goes-on m h b p =
-        possible-more g carried from to m last
+        possible-more g carried carried from to m last
         (λ l. kept-on c ts es t shown bandwidth duration last m l h some (λ x i le. none-met x i (omega arith))) p
 
   module _ (start latest : ℕ) where

@@ -10,17 +10,16 @@ use native.Mathlib.Decide.{ℕ-discrete, decLt}
 use native.Mathlib.Omega.{arith}
 use lib.ListN.{length}
 use Rattle.units.specs.Lists.{within, All, cons-if, select}
-use Rattle.units.specs.Search.{Found, at, nothing, firstFrom}
 use Rattle.units.proofs.Tests.{in-range, member-tells, Rising}
 use Rattle.units.proofs.Parts.{all-map}
-use Rattle.units.proofs.Search.{clash, IsFirst, firstFrom-found, firstFrom-none}
+use Rattle.units.proofs.Search.{clash, IsFirst}
 use Rattle.timeline.specs.Events.{later, events}
 use Rattle.timeline.proofs.Events.{later-rises, member-later, rising-member}
 use Rattle.timeline.proofs.Steady.{NoneBetween}
 use Rattle.timeline.proofs.Spans.{last-start, last-start-le, last-start-between, last-start-is}
-use Rattle.path_search.specs.Paths.{Graph, Route, along, none}
-use Rattle.choice.specs.Choice.{Grant, granted, no-start, grant-at, route-at, possible, choose}
-use Rattle.choice.proofs.Starts.{choose-first, choose-none, none-impossible, possible-back}
+use Rattle.path_search.specs.Paths.{Graph}
+use Rattle.choice.specs.Choice.{Grant, granted, no-start, possible, choose}
+use Rattle.choice.proofs.Starts.{choose-none, granted≢no-start, ChoiceFound, found, none-found, choice-found, possible-back}
 use Rattle.listing.specs.Ranges.{Range, ranges}
 use Rattle.listing.specs.Right.{ranges-with, Apart}
 use Rattle.listing.proofs.Laws.{IsRange, AreRanges, are-ranges, are-only}
@@ -215,44 +214,25 @@ module _ (g : Graph) (carries : ℕ → ℕ → Bool) (from to low latest : ℕ)
 
   -- ---- beside the choice
 
-  -- the choice is the first possible minute, or there is none
-  pub data ChoiceFound : Type 0 where
-    found : (d : Grant) → IsFirst low (suc latest - low) test (d .start) → choose g carries from to low latest ≡ granted d → ChoiceFound
-    none-found : ((m : ℕ) → low ≤ m → m < end → test m ≡ false) → choose g carries from to low latest ≡ no-start → ChoiceFound
-
-  pub choice-found : ChoiceFound
-  choice-found = by (firstFrom low (suc latest - low) test) refl
-    where
-      along-route : (m : ℕ) → IsFirst low (suc latest - low) test m → (r : Route) → route-at g carries from to m ≡ r → ChoiceFound
-      along-route m f (along path) e = found (record { start = m; path = path }) f (choose-first g carries from to low latest m f ∙ ap (grant-at m) e)
-      along-route m f none e = clash (f .passes) (none-impossible g carries from to m e)
-
-      by : (f : Found) → firstFrom low (suc latest - low) test ≡ f → ChoiceFound
-      by (at m) e = along-route m (firstFrom-found test low (suc latest - low) e) (route-at g carries from to m) refl
-      by nothing e = let h = firstFrom-none test low (suc latest - low) e in none-found h (choose-none g carries from to low latest (λ m a b. h m a (omega arith)))
-
-  granted≢no-start : {X : Type 0} {d : Grant} → granted d ≡ no-start → X
-  granted≢no-start e = let z : _≡_ {A = ℕ} 0 1 = cc in absurd (omega arith)
-
   -- The listing is empty if and only if the choice has no start.
   pub empty-iff : (listed ≡ []) ↔ (choose g carries from to low latest ≡ no-start)
   empty-iff = (
     (λ e. let none = subst (AreRanges test low end) e ranges-are in choose-none g carries from to low latest (λ m a b. none m a (omega arith))),
-    λ e. none e choice-found,
+    λ e. none e (choice-found g carries from to low latest),
   )
     where
-      none : choose g carries from to low latest ≡ no-start → ChoiceFound → listed ≡ []
+      none : choose g carries from to low latest ≡ no-start → ChoiceFound g carries from to low latest → listed ≡ []
       none e (found d f q) = granted≢no-start (sym q ∙ e)
-      none e (none-found h q) = are-only test low end listed [] ranges-are h
+      none e (none-found h q) = are-only test low end listed [] ranges-are (λ m a b. h m a (omega arith))
 
   -- The first range's first minute is the choice's start.
   pub first-is-start : (x : Range) (rs : List Range) → listed ≡ x ∷ rs → (d : Grant) → choose g carries from to low latest ≡ granted d → x .first ≡ d .start
-  first-is-start x rs e d q = by choice-found
+  first-is-start x rs e d q = by (choice-found g carries from to low latest)
     where
       is : IsRange test low end x
       is = subst (AreRanges test low end) e ranges-are .0
 
-      by : ChoiceFound → x .first ≡ d .start
+      by : ChoiceFound g carries from to low latest → x .first ≡ d .start
       by (none-found h p) = granted≢no-start (sym q ∙ p)
       by (found c f p) =
           let same : c ≡ d = cc in
