@@ -1,23 +1,20 @@
 -- Cancelling doesn't hurt. A plain book without one of its bookings leaves free figures that are nowhere lower, and those make no
 -- start impossible.
 use mathlib.Core.Path.{_≡_, refl, sym, _∙_, ap, ap₂, subst}
-use mathlib.Core.List.{List, [], _∷_}
+use mathlib.Core.List.{List}
 use mathlib.Core.Bool.{not}
-use Prim.Native.Nat.{ℕ, _≤_}
+use Prim.Native.Nat.{ℕ}
 use native.Mathlib.Omega.{arith}
 use lib.Dec.{eqb}
-use lib.ListN.{length}
 use Rattle.units.specs.declared.Link.{Link}
 use Rattle.units.specs.declared.Request.{Request}
-use Rattle.units.specs.Limits.{most-links}
-use Rattle.units.specs.Lists.{Within}
 use Rattle.units.proofs.Parts.{select-part}
 use Rattle.choice.specs.Choice.{Grant, Choice, choose}
 use Rattle.choice.specs.Answer.{carries}
 use Rattle.choice.specs.Right.{NowhereLower}
 use Rattle.choice.proofs.Theorems.{chosen-no-later}
 use Rattle.desk_core.specs.Plain.{Plain, span, terms, graph, free-for, low}
-use Rattle.desk_core.specs.Calls.{offer, cancel, ask, Answer, done, starts, request-checks, chosen, best, answer, take-out}
+use Rattle.desk_core.specs.Calls.{offer, cancel, ask, done, starts, request-checks, chosen, best, answer, take-out}
 use Rattle.desk_core.specs.Tables.{Tables, tables, held, left-by, outcome}
 use Rattle.desk_core.specs.Sound.{Obeys}
 use Rattle.desk_core.specs.Demands.{answers, all-checks}

@@ -16,7 +16,7 @@ use Rattle.units.proofs.Parts.{all-map}
 use Rattle.timeline.proofs.Steady.{NoneBetween}
 use Rattle.path_search.specs.Paths.{reaches, lowest, fewest, Route, route}
 use Rattle.path_search.proofs.Routes.{RouteView, found, no-chain, route-view}
-use Rattle.choice.specs.Choice.{Grant, Choice, granted, no-start, is-along, possible, choose}
+use Rattle.choice.specs.Choice.{Grant, is-along, possible, choose}
 use Rattle.listing.specs.Ranges.{Range, rangesFrom, ranges}
 use Rattle.listing.proofs.Theorems.{Possible, listed-once, listed-no-other, ranges-apart, ranges-longest, AtStart, ranges-begin, ranges-fit, empty-iff, first-is-start}
 use Rattle.desk_core.specs.Plain.{Plain, graph, carries, low}
@@ -27,7 +27,7 @@ use Rattle.desk_core.specs.Demands.{Passes, PathAt, all-checks, answers}
 use Rattle.desk_core.specs.Examples.{start-at, request, only}
 use Rattle.desk_core.specs.Listing.{PossibleAt, RightListing, EveryStart}
 use Rattle.desk_core.proofs.Uses.{all-times}
-use Rattle.desk_core.proofs.Checks.{starts≢refuse, Passed, passed-answer, passed-done}
+use Rattle.desk_core.proofs.Checks.{Passed, passed-answer, passed-done}
 use Rattle.desk_core.proofs.Tests.{links-tell, nodes-below, RequestRight, request-right}
 use Rattle.desk_core.proofs.Choices.{choice, chosen-none, chosen-granted, carries-tells, way-path, path-way}
 use Rattle.desk_core.proofs.Obeys.{sound-obeys, few-events}
