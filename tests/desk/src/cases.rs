@@ -1,5 +1,5 @@
-//! Histories worked out by hand from document 01: its session, its examples and the faults that it names; and listings by
-//! document 02's Job 1.
+//! Histories worked out by hand from document 01: its session, its examples and the faults that it names; listings by
+//! document 02's Job 1; and offers after cancellations by its Job 4.
 
 use crate::plain::{Answer, Call, Range, Start};
 use crate::{Link, Request, BOOKINGS, LIST_FIGURES, MAX_BANDWIDTH, MAX_DURATION, MAX_MINUTE};
@@ -80,6 +80,7 @@ pub fn cases() -> Vec<Case> {
         case("a gap where no path lasts", links(&[(0, 1, 10), (0, 1, 10)]), paths_too_short()),
         case("the most ranges there are", links(&[(0, 1, 10)]), most_ranges()),
         case("listings to the last minute", links(&[(0, 1, 5)]), listed_last_minutes()),
+        case("an offer after cancellations: the same, earlier, by fewer links", triangle(), cancelled_between()),
     ]
 }
 
@@ -448,5 +449,23 @@ fn listed_last_minutes() -> Vec<(Call, Answer)> {
         listed(open(1), &[]),
         cancelled(1),
         listed(open(MAX_DURATION), &[(MAX_MINUTE, MAX_MINUTE)]),
+    ]
+}
+
+/// The offer waits for link 2 until minute 10. Cancelling 3 changes nothing, 9 frees the links around it from minute 0 on,
+/// and 7 link 2 itself.
+fn cancelled_between() -> Vec<(Call, Answer)> {
+    let offer = request(2, 4, 5, 0, MAX_MINUTE);
+    vec![
+        booked(7, request(2, 4, 10, 0, MAX_MINUTE), 0, &[2]),
+        booked(9, request(2, 10, 20, 0, MAX_MINUTE), 0, &[0, 1]),
+        booked(3, request(1, 1, 5, 100, 100), 100, &[0]),
+        offered(offer, 10, &[2]),
+        cancelled(3),
+        offered(offer, 10, &[2]),
+        cancelled(9),
+        offered(offer, 0, &[0, 1]),
+        cancelled(7),
+        offered(offer, 0, &[2]),
     ]
 }

@@ -1,5 +1,7 @@
 //! The exported calls of the proved desk, on tables that are lent to them.
 
+use support::Random;
+
 use crate::plain::{Answer, Call, Range, Start};
 use crate::tables::Tables;
 use crate::{Head, Link, Request, PATH_LINKS};
@@ -117,6 +119,13 @@ pub fn show(links: &[Link], t: &Tables, link: u32, minute: u32) -> Result<u32, u
     }
     assert_eq!(shown.free, 0, "a refused showing shows a figure");
     Err(shown.refusal)
+}
+
+/// A desk just set up, on tables that held anything.
+pub fn fresh(links: &[Link], random: &mut Random) -> Tables {
+    let mut held = Tables::filled_with(random.next() as u32);
+    assert_eq!(set_up(links, &mut held), Ok(()));
+    held
 }
 
 /// A call on a desk with these links; a set-up brings its own.

@@ -4,10 +4,11 @@
 use desk_tests::calls::{list_size, pick};
 use desk_tests::cases::cases;
 use desk_tests::damages::{damage, forged};
+use desk_tests::exported::{self, fresh};
 use desk_tests::plain::{Answer, Call, Desk};
 use desk_tests::sessions::History;
 use desk_tests::tables::{self, Tables};
-use desk_tests::{exported, listings, Link, Request, LIST_FIGURES};
+use desk_tests::{listings, Link, Request, LIST_FIGURES};
 use support::{Random, Seed};
 
 const SEED: u64 = 0xDE5_C000;
@@ -23,18 +24,11 @@ fn same(links: &[Link], held: &mut Tables, call: &Call, expected: &Answer, desk:
     assert!(*held == tables::of(desk), "{what}: {call:?} leaves other tables");
 }
 
-/// A desk just set up, on tables that held anything.
-fn set_up(links: &[Link], random: &mut Random) -> Tables {
-    let mut held = Tables::filled_with(random.next() as u32);
-    assert_eq!(exported::answer(links, &mut held, &Call::SetUp(links.to_vec())), Answer::SetUp);
-    held
-}
-
 #[test]
 fn the_worked_examples() {
     for case in cases() {
         let mut desk = Desk::set_up(&case.links).expect("valid links");
-        let mut held = set_up(&case.links, &mut Random::new(SEED));
+        let mut held = fresh(&case.links, &mut Random::new(SEED));
         for (call, answer) in &case.steps {
             let links = desk.links.clone();
             assert_eq!(desk.answer(call), *answer, "{}", case.name);
@@ -49,7 +43,7 @@ fn random_histories() {
     for seed in SEED.. {
         let (mut random, _seed) = (Random::new(seed), Seed(seed));
         let mut history = History::new(seed);
-        let mut held = set_up(&history.desk.links, &mut random);
+        let mut held = fresh(&history.desk.links, &mut random);
         for step in 0..500 {
             let what = format!("seed {seed:#x}, step {step}");
             let links = history.desk.links.clone();
@@ -193,8 +187,8 @@ fn two_histories_to_the_same_bookings() {
     for seed in SEED + 2..SEED + 202 {
         let _seed = Seed(seed);
         let mut history = History::new(seed);
-        let mut straight = set_up(&history.desk.links, &mut Random::new(seed));
-        let mut around = set_up(&history.desk.links, &mut Random::new(seed + 1));
+        let mut straight = fresh(&history.desk.links, &mut Random::new(seed));
+        let mut around = fresh(&history.desk.links, &mut Random::new(seed + 1));
         for step in 0..100 {
             let links = history.desk.links.clone();
             for (call, answer) in history.detour().into_iter().flatten() {
