@@ -1,4 +1,5 @@
--- The theorems on the choice, for links whose nodes are 0 to 31 and a source that is not the destination.
+-- The theorems on the choice. That it is right is said for links whose nodes are 0 to 31 and a source that is not the destination;
+-- that figures which are nowhere lower make no start impossible, for all.
 use mathlib.Core.Path.{_≡_, refl, sym, _∙_, ap, subst}
 use mathlib.Core.Logic.{_≢_, _↔_, _⊎_}
 use mathlib.Core.List.{List, List·Memᴰ}
@@ -27,8 +28,8 @@ use Rattle.choice.specs.declared.Chosen.{Chosen}
 use Rattle.choice.specs.Choice.{Grant, Choice, granted, possible, choose}
 use Rattle.choice.specs.Answer.{suffices, carries, Askable, start-with, refusal, chosen}
 use Rattle.choice.specs.Right.{NowhereLower, FreeThroughout, CarriedBy, Best, NonePossible, Right, best, none-possible}
-use Rattle.choice.proofs.Choice.{IsGrant, is-grant-only, ChoiceView, grants, grants-none, choose-view}
-use Rattle.choice.proofs.Starts.{possible-more, granted≢no-start, ChoiceFound, found, none-found, choice-found}
+use Rattle.choice.proofs.Choice.{granted≢no-start, IsGrant, is-grant-only, ChoiceView, grants, grants-none, choose-view}
+use Rattle.choice.proofs.Starts.{possible-more, ChoiceFound, found, none-found, choice-found}
 
 -- a start is no refusal
 started-refused : {X : Type 0} (start : ℕ) (path : Path) → start-with (record { 0 = start }) path ≡ refusal → X
@@ -159,20 +160,30 @@ module _ (g : Graph) (figure : ℕ → ℕ → ℕ) (bandwidth duration source d
 
 -- ---- figures that are nowhere lower
 
+-- The figures are any: what is free of each link, what of it one holder may have, or none of it where a link is closed.
 module _ (g : Graph) (before after : ℕ → ℕ → ℕ) (more : NowhereLower before after) (bandwidth duration source destination : ℕ) where
-  -- They make no start impossible. The figures are any: what is free, what of it one holder may have, or 0 under a closure.
-  pub stays-possible : (m : ℕ) → possible g (carries before bandwidth duration) source destination m ≡ true → possible g (carries after bandwidth duration) source destination m ≡ true
-  stays-possible m =
-      possible-more g (carries before bandwidth duration) (carries after bandwidth duration) source destination m m
-      (λ l e. carries-tells g after bandwidth duration source destination m l .1 (λ k a b. le-trans (carries-tells g before bandwidth duration source destination m l .0 e k a b) (more l k)))
+  abbrev carried-before : ℕ → ℕ → Bool
+  carried-before = carries before bandwidth duration
+
+  abbrev carried-after : ℕ → ℕ → Bool
+  carried-after = carries after bandwidth duration
+
+  still-carried : (m l : ℕ) → carried-before m l ≡ true → carried-after m l ≡ true
+  still-carried m l e =
+      carries-tells g after bandwidth duration source destination m l .1
+      (λ k a b. le-trans (carries-tells g before bandwidth duration source destination m l .0 e k a b) (more l k))
+
+  -- They make no start impossible.
+  pub stays-possible : (m : ℕ) → possible g carried-before source destination m ≡ true → possible g carried-after source destination m ≡ true
+  stays-possible m = possible-more g carried-before carried-after source destination m m (still-carried m)
 
   -- So where a start was chosen one is, and it is no later.
-  pub chosen-no-later : (low latest : ℕ) (c : Grant) → choose g (carries before bandwidth duration) source destination low latest ≡ granted c
-      → (d : Grant) × (choose g (carries after bandwidth duration) source destination low latest ≡ granted d) × (d .start ≤ c .start)
-  chosen-no-later low latest c e = by (choice-found g (carries before bandwidth duration) source destination low latest) (choice-found g (carries after bandwidth duration) source destination low latest)
+  pub chosen-no-later : (low latest : ℕ) (c : Grant) → choose g carried-before source destination low latest ≡ granted c
+      → (d : Grant) × (choose g carried-after source destination low latest ≡ granted d) × (d .start ≤ c .start)
+  chosen-no-later low latest c e = by (choice-found g carried-before source destination low latest) (choice-found g carried-after source destination low latest)
     where
-      by : ChoiceFound g (carries before bandwidth duration) source destination low latest → ChoiceFound g (carries after bandwidth duration) source destination low latest
-          → (d : Grant) × (choose g (carries after bandwidth duration) source destination low latest ≡ granted d) × (d .start ≤ c .start)
+      by : ChoiceFound g carried-before source destination low latest → ChoiceFound g carried-after source destination low latest
+          → (d : Grant) × (choose g carried-after source destination low latest ≡ granted d) × (d .start ≤ c .start)
       by (none-found h q) x = granted≢no-start (sym e ∙ q)
       by (found b f q) (none-found h r) = clash (stays-possible (b .start) (f .passes)) (h (b .start) (f .low) (omega (arith, f .high)))
       by (found b f q) (found d i r) =

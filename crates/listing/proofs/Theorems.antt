@@ -19,7 +19,8 @@ use Rattle.timeline.proofs.Steady.{NoneBetween}
 use Rattle.timeline.proofs.Spans.{last-start, last-start-le, last-start-between, last-start-is}
 use Rattle.path_search.specs.Paths.{Graph}
 use Rattle.choice.specs.Choice.{Grant, granted, no-start, possible, choose}
-use Rattle.choice.proofs.Starts.{choose-none, granted≢no-start, ChoiceFound, found, none-found, choice-found, possible-back}
+use Rattle.choice.proofs.Choice.{granted≢no-start}
+use Rattle.choice.proofs.Starts.{choose-none, ChoiceFound, found, none-found, choice-found, possible-back}
 use Rattle.listing.specs.Ranges.{Range, ranges}
 use Rattle.listing.specs.Right.{ranges-with, Apart}
 use Rattle.listing.proofs.Laws.{IsRange, AreRanges, are-ranges, are-only}
