@@ -9,8 +9,7 @@ use lib.Dec.{leb, eqb}
 use Rattle.units.specs.declared.Link.{Link}
 use Rattle.units.specs.declared.Request.{Request}
 use Rattle.units.proofs.Parts.{select-part}
-use Rattle.choice.specs.Choice.{Grant, Choice, choose}
-use Rattle.choice.specs.Answer.{carries}
+use Rattle.choice.specs.Choice.{Grant}
 use Rattle.choice.specs.Right.{NowhereLower}
 use Rattle.choice.proofs.Theorems.{chosen-no-later}
 use Rattle.desk_core.specs.Plain.{Plain, span, terms, graph, free-for, low}
@@ -22,7 +21,7 @@ use Rattle.desk_core.specs.Cancelling.{StartsBy, CancellingHarmless}
 use Rattle.desk_core.proofs.Uses.{taken-part}
 use Rattle.desk_core.proofs.Checks.{starts≢refuse, Passed, passed-answer, passed-all}
 use Rattle.desk_core.proofs.Tests.{sized-tells}
-use Rattle.desk_core.proofs.Choices.{choice, chosen-granted}
+use Rattle.desk_core.proofs.Choices.{choice-by, choice, chosen-granted}
 use Rattle.desk_core.proofs.Obeys.{sound-obeys}
 use Rattle.desk_core.proofs.Step.{obeys-take-out, answers-plain}
 use Rattle.desk_core.proofs.Demand1.{answer-is}
@@ -30,14 +29,11 @@ use Rattle.desk_core.proofs.Demand1.{answer-is}
 -- ---- of two plain books with the same window and span, the one whose figures are nowhere lower offers no later
 
 module _ (links : List Link) (p q : Plain) (r : Request) (window : low p r ≡ low q r) (minutes : span p (terms r) ≡ span q (terms r)) (more : NowhereLower (free-for links p r) (free-for links q r)) where
-  abbrev by-figures : (ℕ → ℕ → ℕ) → ℕ → ℕ → Choice
-  by-figures f duration first = choose (graph links) (carries f (r .bandwidth .0) duration) (r .from) (r .to) first (r .latest .0)
-
   best-no-later : (g : Grant) → best links p r ≡ starts g → StartsBy (g .start) (best links q r)
   unfolding best
   best-no-later g e =
       let h = chosen-no-later (graph links) (free-for links p r) (free-for links q r) more (r .bandwidth .0) (span p (terms r)) (r .from) (r .to) (low p r) (r .latest .0) g (chosen-granted (choice links p r) g e) in
-      (h .0, ap chosen (sym (ap₂ (by-figures (free-for links q r)) minutes window) ∙ h .1), h .2)
+      (h .0, ap chosen (sym (ap₂ (choice-by links r (free-for links q r)) minutes window) ∙ h .1), h .2)
 
 module _ (links : List Link) (t : Tables) (r : Request) (g : Grant) (offered : outcome links t (ask (offer r)) .answer ≡ starts g) where
   passed : Passed (all-checks links t (ask (offer r)))
@@ -76,15 +72,11 @@ module _ (links : List Link) (t : Tables) (r : Request) (n : ℕ) (g : Grant) (o
       subst (λ u. StartsBy (g .start) (outcome links u (ask (offer r)) .answer)) (sym left-cancelled)
       (offer-no-later links t r g offered (take-out n (held t)) (obeys-take-out links (held t) n (obeyed links t r g offered)) refl refl (freer links (held t) r n))
 
+-- equal lists of three answers have the same answer at each place
+each-same : {x y z a b c : Answer} → x ∷ y ∷ z ∷ [] ≡ a ∷ b ∷ c ∷ [] → (x ≡ a) × (y ≡ b) × (z ≡ c)
+each-same e = (cc, cc, cc)
+
 -- 'Cancelling must not hurt': document 02's Job 4.
 pub cancelling-harmless : CancellingHarmless outcome
 unfolding answers outcome
-cancelling-harmless = record { no-later = harmless }
-  where
-    harmless : (links : List Link) (t : Tables) (r : Request) (n : ℕ) (g : Grant) (again : Answer)
-        → answers outcome links t (ask (offer r) ∷ ask (cancel n) ∷ ask (offer r) ∷ []) ≡ starts g ∷ done ∷ again ∷ [] → StartsBy (g .start) again
-    harmless links t r n g again e =
-        let first : outcome links t (ask (offer r)) .answer ≡ starts g = cc in
-        let second : outcome links t (ask (cancel n)) .answer ≡ done = cc in
-        let third : outcome links (outcome links t (ask (cancel n)) .tables) (ask (offer r)) .answer ≡ again = cc in
-        subst (StartsBy (g .start)) third (no-later links t r n g first second)
+cancelling-harmless = record { no-later = λ links t r n g again e. let s = each-same e in subst (StartsBy (g .start)) (s .2) (no-later links t r n g (s .0) (s .1)) }
