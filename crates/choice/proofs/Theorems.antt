@@ -1,5 +1,5 @@
 -- The theorems on the choice. That it is right is said for links whose nodes are 0 to 31 and a source that is not the destination;
--- that figures which are nowhere lower make no start impossible, for all.
+-- that figures which are nowhere lower make no start impossible, for any links and nodes.
 use mathlib.Core.Path.{_≡_, refl, sym, _∙_, ap, subst}
 use mathlib.Core.Logic.{_≢_, _↔_, _⊎_}
 use mathlib.Core.List.{List, List·Memᴰ}
@@ -160,7 +160,7 @@ module _ (g : Graph) (figure : ℕ → ℕ → ℕ) (bandwidth duration source d
 
 -- ---- figures that are nowhere lower
 
--- The figures are any: what is free of each link, what of it one holder may have, or none of it where a link is closed.
+-- The figures are any two for each link and minute, whatever makes the first lower.
 module _ (g : Graph) (before after : ℕ → ℕ → ℕ) (more : NowhereLower before after) (bandwidth duration source destination : ℕ) where
   abbrev carried-before : ℕ → ℕ → Bool
   carried-before = carries before bandwidth duration
