@@ -8,6 +8,7 @@ use native.Mathlib.Numerals.{add-one}
 use native.Mathlib.Omega.{arith}
 use lib.ListN.{length, take, drop, replicate, length-append, length-drop}
 use lib.Seq.{drop-drop, take-at, drop-at, length-take-le}
+use Rattle.units.specs.declared.Head.{Head}
 use Rattle.units.specs.Limits.{most-bookings, place-size}
 use Rattle.units.specs.Lists.{count-from, cons-if, select}
 use Rattle.book.specs.Places.{place-in, places-in, stands-at, still-standing, only-places}
@@ -36,39 +37,39 @@ module _ {A : Type 0} where
   unfolding flatten
   flatten-one x = append-nil x
 
-module _ (clock : ℕ) (book : List ℕ) (n : ℕ) where
+module _ (head : Head) (book : List ℕ) (n : ℕ) where
   -- of one place more
-  standing-snoc : still-standing clock book (n + 1) ≡ still-standing clock book n ++ cons-if (stands-at clock (place-in book n)) (place-in book n) []
+  standing-snoc : still-standing head book (n + 1) ≡ still-standing head book n ++ cons-if (stands-at head (place-in book n)) (place-in book n) []
   unfolding still-standing select
   standing-snoc =
       let z : 0 + n ≡ n = omega arith in
-      rw (add-one n, count-snoc 0 n, z, map-append) (select-append (stands-at clock) (places-in book n) (place-in book n ∷ []))
+      rw (add-one n, count-snoc 0 n, z, map-append) (select-append (stands-at head) (places-in book n) (place-in book n ∷ []))
 
-  standing-more : stands-at clock (place-in book n) ≡ true → still-standing clock book (n + 1) ≡ still-standing clock book n ++ (place-in book n ∷ [])
-  standing-more e = standing-snoc ∙ ap (λ t. still-standing clock book n ++ cons-if t (place-in book n) []) e
+  standing-more : stands-at head (place-in book n) ≡ true → still-standing head book (n + 1) ≡ still-standing head book n ++ (place-in book n ∷ [])
+  standing-more e = standing-snoc ∙ ap (λ t. still-standing head book n ++ cons-if t (place-in book n) []) e
 
-  standing-same : stands-at clock (place-in book n) ≡ false → still-standing clock book (n + 1) ≡ still-standing clock book n
-  standing-same e = standing-snoc ∙ ap (λ t. still-standing clock book n ++ cons-if t (place-in book n) []) e ∙ append-nil (still-standing clock book n)
+  standing-same : stands-at head (place-in book n) ≡ false → still-standing head book (n + 1) ≡ still-standing head book n
+  standing-same e = standing-snoc ∙ ap (λ t. still-standing head book n ++ cons-if t (place-in book n) []) e ∙ append-nil (still-standing head book n)
 
 -- `kept` of the first `place` places that came stand at the clock and are at the front
-pub record Kept (clock : ℕ) (came book : List ℕ) (kept place : ℕ) : Type 0 where
+pub record Kept (head : Head) (came book : List ℕ) (kept place : ℕ) : Type 0 where
   pub few : kept ≤ place
-  pub count : kept ≡ length (still-standing clock came place)
-  pub front : take (kept * place-size) book ≡ flatten (still-standing clock came place)
+  pub count : kept ≡ length (still-standing head came place)
+  pub front : take (kept * place-size) book ≡ flatten (still-standing head came place)
   pub behind : drop (place * place-size) book ≡ drop (place * place-size) came
 
-pub kept-none : (clock : ℕ) (came : List ℕ) → Kept clock came came 0 0
+pub kept-none : (head : Head) (came : List ℕ) → Kept head came came 0 0
 unfolding still-standing select count-from flatten
-kept-none clock came = record { few = omega arith; count = refl; front = refl; behind = refl }
+kept-none head came = record { few = omega arith; count = refl; front = refl; behind = refl }
 
-pub kept-as : {clock : ℕ} {came book after : List ℕ} {kept count place : ℕ} → after ≡ book → count ≡ kept → Kept clock came book kept place → Kept clock came after count place
-kept-as {clock} {came} {place = place} e n k = subst₂ (λ (b : List ℕ) i. Kept clock came b i place) (sym e) (sym n) k
+pub kept-as : {head : Head} {came book after : List ℕ} {kept count place : ℕ} → after ≡ book → count ≡ kept → Kept head came book kept place → Kept head came after count place
+kept-as {head} {came} {place = place} e n k = subst₂ (λ (b : List ℕ) i. Kept head came b i place) (sym e) (sym n) k
 
 -- the book with place `from` copied over place `to`
 abbrev pub place-copied : ℕ → ℕ → List ℕ → List ℕ
 place-copied to from book = take (to * place-size) book ++ (place-in book from ++ drop (to * place-size + place-size) book)
 
-module _ (clock : ℕ) (came book : List ℕ) (kept place : ℕ) (k : Kept clock came book kept place) where
+module _ (head : Head) (came book : List ℕ) (kept place : ℕ) (k : Kept head came book kept place) where
   next-behind : drop ((place + 1) * place-size) book ≡ drop ((place + 1) * place-size) came
   next-behind =
       let e : (place + 1) * place-size ≡ place * place-size + place-size = omega arith in
@@ -77,9 +78,9 @@ module _ (clock : ℕ) (came book : List ℕ) (kept place : ℕ) (k : Kept clock
   as-came : place-in book place ≡ place-in came place
   as-came = ap (take place-size) (k .behind)
 
-  pub kept-same : stands-at clock (place-in book place) ≡ false → Kept clock came book kept (place + 1)
+  pub kept-same : stands-at head (place-in book place) ≡ false → Kept head came book kept (place + 1)
   kept-same s =
-      let e : still-standing clock came (place + 1) ≡ still-standing clock came place = standing-same clock came place (ap (stands-at clock) (sym as-came) ∙ s) in
+      let e : still-standing head came (place + 1) ≡ still-standing head came place = standing-same head came place (ap (stands-at head) (sym as-came) ∙ s) in
       record {
         few = omega (arith, k .few);
         count = k .count ∙ ap length (sym e);
@@ -87,16 +88,16 @@ module _ (clock : ℕ) (came book : List ℕ) (kept place : ℕ) (k : Kept clock
         behind = next-behind;
       }
 
-  pub kept-more : stands-at clock (place-in book place) ≡ true → place * place-size + place-size ≤ length book → Kept clock came (place-copied kept place book) (kept + 1) (place + 1)
+  pub kept-more : stands-at head (place-in book place) ≡ true → place * place-size + place-size ≤ length book → Kept head came (place-copied kept place book) (kept + 1) (place + 1)
   kept-more s h =
       record {
         few = omega (arith, k .few);
-        count = omega (arith, k .count, ap length e, length-append (still-standing clock came place) (place-in came place ∷ []));
+        count = omega (arith, k .count, ap length e, length-append (still-standing head came place) (place-in came place ∷ []));
         front =
             ap₂ take next split
             ∙ take-at front rest cut front-length
             ∙ ap₂ _++_ (k .front) (as-came ∙ sym (flatten-one (place-in came place)))
-            ∙ sym (flatten-append (still-standing clock came place) (place-in came place ∷ []))
+            ∙ sym (flatten-append (still-standing head came place) (place-in came place ∷ []))
             ∙ ap flatten (sym e);
         behind =
             ap₂ drop far split
@@ -119,8 +120,8 @@ module _ (clock : ℕ) (came book : List ℕ) (kept place : ℕ) (k : Kept clock
       split : place-copied kept place book ≡ front ++ rest
       split = sym (append-assoc (take (kept * place-size) book) (place-in book place) rest)
 
-      e : still-standing clock came (place + 1) ≡ still-standing clock came place ++ (place-in came place ∷ [])
-      e = standing-more clock came place (ap (stands-at clock) (sym as-came) ∙ s)
+      e : still-standing head came (place + 1) ≡ still-standing head came place ++ (place-in came place ∷ [])
+      e = standing-more head came place (ap (stands-at head) (sym as-came) ∙ s)
 
       next : (kept + 1) * place-size ≡ cut
       next = omega arith
@@ -136,8 +137,8 @@ module _ (clock : ℕ) (came book : List ℕ) (kept place : ℕ) (k : Kept clock
 
   -- with zeros behind the front
   pub kept-all : place ≤ most-bookings → length book ≡ most-bookings * place-size
-      → take (kept * place-size) book ++ replicate (length book - kept * place-size) 0 ≡ only-places (still-standing clock came place)
+      → take (kept * place-size) book ++ replicate (length book - kept * place-size) 0 ≡ only-places (still-standing head came place)
   kept-all p l = ap₂ (λ (t : List ℕ) n. t ++ replicate n 0) (k .front) zeros
     where
-      zeros : length book - kept * place-size ≡ most-bookings * place-size - length (flatten (still-standing clock came place))
+      zeros : length book - kept * place-size ≡ most-bookings * place-size - length (flatten (still-standing head came place))
       zeros = omega (arith, length-take-le (kept * place-size) book (omega (arith, k .few)), ap length (k .front))

@@ -7,8 +7,9 @@ use Prim.Native.Nat.{ℕ, suc, _+_, _-_, _*_, _≤_}
 use native.Mathlib.Omega.{arith}
 use lib.ListN.{length, getD, take, drop, length-append, length-map, List·getD-append}
 use lib.Seq.{take-at, drop-at, getD-append-add}
+use Rattle.units.specs.declared.Head.{Head}
 use Rattle.units.specs.Limits.{most-bookings, place-size}
-use Rattle.units.specs.Lists.{cons-if, select, put-in, All}
+use Rattle.units.specs.Lists.{cons-if, select, put-piece, All}
 use Rattle.units.proofs.Padded.{Rows, length-padded, length-rows, rows-insert, rows-remove}
 use Rattle.book.specs.declared.Booking.{Booking}
 use Rattle.book.specs.Places.{number-at, numbers-in, figures, find, standing, slot, slot-among, with-booking, without-place, place-in, places-in, stands-at, still-standing, only-places}
@@ -66,16 +67,16 @@ module _ {A : Type 0} (f : A → List ℕ) where
     numbers-filled = read-filled f number-at number-of xs r (reads-number xs r)
 
     -- those that still stand
-    pub standing-filled : (clock : ℕ) → still-standing clock (filled xs) (length xs) ≡ map f (select (λ x. stands-at clock (f x)) xs)
+    pub standing-filled : (head : Head) → still-standing head (filled xs) (length xs) ≡ map f (select (λ x. stands-at head (f x)) xs)
     unfolding still-standing
-    standing-filled clock = ap (select (stands-at clock)) places-filled ∙ select-map (stands-at clock) f xs
+    standing-filled head = ap (select (stands-at head)) places-filled ∙ select-map (stands-at head) f xs
 
     -- what dropping the ended leaves, and how many
-    pub drop-filled : (clock : ℕ) → only-places (still-standing clock (filled xs) (length xs)) ≡ filled (select (λ x. stands-at clock (f x)) xs)
-    drop-filled clock = ap only-places (standing-filled clock)
+    pub drop-filled : (head : Head) → only-places (still-standing head (filled xs) (length xs)) ≡ filled (select (λ x. stands-at head (f x)) xs)
+    drop-filled head = ap only-places (standing-filled head)
 
-    pub count-filled : (clock : ℕ) → length (still-standing clock (filled xs) (length xs)) ≡ length (select (λ x. stands-at clock (f x)) xs)
-    count-filled clock = ap length (standing-filled clock) ∙ length-map (select (λ x. stands-at clock (f x)) xs) f
+    pub count-filled : (head : Head) → length (still-standing head (filled xs) (length xs)) ≡ length (select (λ x. stands-at head (f x)) xs)
+    count-filled head = ap length (standing-filled head) ∙ length-map (select (λ x. stands-at head (f x)) xs) f
 
     pub slot-filled : (number : ℕ) → slot number (filled xs) (length xs) ≡ slot-among number (map number-of xs)
     slot-filled number = ap (slot-among number) numbers-filled
@@ -99,7 +100,7 @@ module _ {A : Type 0} (f : A → List ℕ) where
     pub insert-filled : (b : Booking) → figures b ≡ f x → with-booking (length xs) b (filled (xs ++ ys)) ≡ filled (xs ++ (x ∷ ys))
     unfolding with-booking
     insert-filled b e =
-        ap (λ (row : List ℕ). put-in (length xs * place-size) row (filled (xs ++ ys))) e
+        ap (λ (row : List ℕ). put-piece (length xs * place-size) row (filled (xs ++ ys))) e
         ∙ ap (λ n. take (length xs * place-size) (filled (xs ++ ys)) ++ (f x ++ take n (drop (length xs * place-size) (filled (xs ++ ys))))) room
         ∙ sym (rows-insert f place-size most-bookings xs x ys r few)
 

@@ -7,7 +7,7 @@ use borrow.Rule.Slice.PartMut.{putMid}
 use lib.ListN.{length, set, take, drop, length-append, length-drop, length-set}
 use lib.Seq.{sets-eq, drop-drop, take-at, drop-at, length-take-le}
 use Rattle.units.specs.Limits.{most-hops, place-size}
-use Rattle.units.specs.Lists.{put-in}
+use Rattle.units.specs.Lists.{put-piece}
 use Rattle.units.proofs.Pieces.{part-back}
 
 -- the first five figures written
@@ -33,7 +33,7 @@ place-written l last links n s d b k h e =
 pub put-over : (from size : ℕ) (l opened last piece : List ℕ) → length piece ≡ size → from + size ≤ length l
     → opened ≡ take size (take (length l - from) (drop from l)) ++ take (length (take (length l - from) (drop from l)) - size) (take (length l - from) (drop from l))
     → last ≡ piece ++ drop size (take (length (putMid from (length l - from) l opened) - from) (drop from (putMid from (length l - from) l opened)))
-    → putMid from (length (putMid from (length l - from) l opened) - from) (putMid from (length l - from) l opened) last ≡ put-in from piece l
+    → putMid from (length (putMid from (length l - from) l opened) - from) (putMid from (length l - from) l opened) last ≡ put-piece from piece l
 put-over from size l opened last piece p h e f =
     part-back from first last (λ (t : List ℕ). piece ++ drop size t) long f
     ∙ ap₂ (λ (x y : List ℕ). x ++ (piece ++ drop size y)) (ap (take from) is-first ∙ take-at (take from l) (shifted rest) from front) (ap (drop from) is-first ∙ drop-at (take from l) (shifted rest) from front)

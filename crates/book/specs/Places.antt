@@ -5,8 +5,10 @@ use Prim.Native.Nat.{ℕ, suc, _+_, _*_}
 use lib.Dec.{leb, ltb, eqb}
 use lib.ListN.{getD, take, drop, replicate}
 use Rattle.units.specs.Limits.{most-hops, most-bookings, place-size}
-use Rattle.units.specs.Lists.{padded, count-from, select, put-in}
+use Rattle.units.specs.Lists.{padded, count-from, select, put-piece}
 use Rattle.units.specs.Search.{Found, at, nothing, firstFrom}
+use Rattle.units.specs.Spans.{span-of, release}
+use Rattle.units.specs.declared.Head.{Head}
 use Rattle.book.specs.declared.Booking.{Booking}
 use Rattle.book.specs.declared.Standing.{Standing}
 use Rattle.book.specs.declared.Standing.the-variants.{At, Nowhere}
@@ -29,10 +31,6 @@ booking-in book i = record {
 -- the thirty-six figures of a booking
 abbrev pub figures : Booking → List ℕ
 figures b = b .number ∷ b .start .0 ∷ b .duration .0 ∷ b .bandwidth .0 ∷ b .count ∷ b .links
-
--- the minute at which a booking releases its links: its start plus the minutes for which it holds them
-abbrev pub release : ℕ → ℕ → ℕ
-release start held = start + held
 
 -- what a search found, as the place where a number stands
 abbrev pub standing : Found → Standing
@@ -63,7 +61,7 @@ slot number book n = slot-among number (numbers-in book n)
 
 -- the book with a booking put in at place i: those behind it move up
 unfoldable pub with-booking : ℕ → Booking → List ℕ → List ℕ
-with-booking i b book = put-in (i * place-size) (figures b) book
+with-booking i b book = put-piece (i * place-size) (figures b) book
 
 -- the book without place i: those behind it move down, and the last place is zero
 unfoldable pub without-place : ℕ → List ℕ → List ℕ
@@ -78,12 +76,12 @@ abbrev pub places-in : List ℕ → ℕ → List (List ℕ)
 places-in book n = map (place-in book) (count-from 0 n)
 
 -- document 01's 'stands': the booking of these figures releases its links later than the clock
-abbrev pub stands-at : ℕ → List ℕ → Bool
-stands-at clock place = ltb clock (release (getD place 1 0) (getD place 2 0))
+abbrev pub stands-at : Head → List ℕ → Bool
+stands-at head place = ltb (head .clock .0) (release (booking-in place 0 .start .0) (span-of head (booking-in place 0 .duration .0)))
 
 -- those of the first n places that still stand at the clock
-unfoldable pub still-standing : ℕ → List ℕ → ℕ → List (List ℕ)
-still-standing clock book n = select (stands-at clock) (places-in book n)
+unfoldable pub still-standing : Head → List ℕ → ℕ → List (List ℕ)
+still-standing head book n = select (stands-at head) (places-in book n)
 
 -- the book of these places: zeros behind them
 abbrev pub only-places : List (List ℕ) → List ℕ

@@ -2,16 +2,19 @@
 // read a place, find a number, put a booking in, take one out and drop those that have ended. It never sees what is free.
 use units::Bandwidth;
 use units::Duration;
+use units::Head;
 use units::Minute;
 use units::PATH_LINKS;
 use units::PLACE;
 use units::clear_from;
+use units::release;
+use units::shift_up;
 ghost use mathlib.Core.Path.{_≡_};
 ghost use mathlib.Core.List.{_++_};
 ghost use Prim.Native.Nat.{_+_, _-_, _*_, _≤_};
 ghost use lib.ListN.{length, take, drop, replicate};
 ghost use Rattle.units.specs.Limits.{most-hops, most-bookings, place-size};
-ghost use Rattle.book.specs.Places.{booking-in, figures, find, slot, with-booking, without-place, place-in, release, stands-at, still-standing, only-places};
+ghost use Rattle.book.specs.Places.{booking-in, figures, find, slot, with-booking, without-place, place-in, stands-at, still-standing, only-places};
 
 // Where the figures of a place stand in it; its number stands first.
 const START: usize = 1;
@@ -101,18 +104,6 @@ pub fn slot(book: &[u32], count: usize, number: u32) -> usize
     place
 }
 
-// Opens the first place of the part: what stands there and behind it moves up by a place, and the last place is dropped.
-fn open_place(part: &mut [u32])
-    requires { ⌜ place-size ≤ length (now part) ⌝ }
-    ensures { λ _. ⌜ now (part .exit) ≡ take place-size (now (part .entry)) ++ take (length (now (part .entry)) - place-size) (now (part .entry)) ⌝ }
-{
-    let mut i = part.len();
-    while PLACE < i {
-        i -= 1;
-        part[i] = part[i - PLACE];
-    }
-}
-
 // Writes the thirty-one path places at the front of the part.
 fn write_path(part: &mut [u32], links: [u32; PATH_LINKS])
     requires { ⌜ most-hops ≤ length (now part) ⌝ }
@@ -145,7 +136,7 @@ pub fn insert_booking(book: &mut [u32], place: usize, booking: Booking)
     ensures { λ _. ⌜ now (book .exit) ≡ with-booking place booking (now (book .entry)) ⌝ }
 {
     let from = place * PLACE;
-    open_place(&mut book[from..]);
+    shift_up(&mut book[from..], PLACE);
     write_place(&mut book[from..], booking);
 }
 
@@ -172,22 +163,15 @@ pub fn remove_place(book: &mut [u32], place: usize)
     close_place(&mut book[from..]);
 }
 
-// The minute at which a booking releases its links.
-pub fn release(start: Minute, duration: Duration) -> u64
-    ensures { λ r. ⌜ r ≡ release (start .0) (duration .0) ⌝ }
-{
-    start.0 as u64 + duration.0 as u64
-}
-
-// Whether the booking at a place still stands at the clock: it releases its links later.
-fn stands(book: &[u32], place: usize, clock: Minute) -> bool
+// Whether the booking at a place still stands at the head's clock: it releases its links later.
+fn stands(book: &[u32], place: usize, head: Head) -> bool
     requires { ⌜ place * place-size + place-size ≤ length (now book) ⌝ }
-    ensures { λ r. ⌜ r ≡ stands-at (clock .0) (place-in (now (book .entry)) place) ⌝ }
+    ensures { λ r. ⌜ r ≡ stands-at head (place-in (now (book .entry)) place) ⌝ }
 {
     let at = place * PLACE;
     let start = Minute(book[at + START]);
     let duration = Duration(book[at + DURATION]);
-    (clock.0 as u64) < release(start, duration)
+    (head.clock.0 as u64) < release(head, start, duration)
 }
 
 // Copies a place over an earlier one, or over itself.
@@ -204,16 +188,17 @@ fn copy_place(book: &mut [u32], to: usize, from: usize)
     }
 }
 
-// Keeps, in order, those of the first `count` places that still stand at the clock, with zeros behind them; answers how many.
-pub fn drop_ended(book: &mut [u32], count: usize, clock: Minute) -> usize
-    requires { ⌜ (count ≤ most-bookings) × (length (now book) ≡ most-bookings * place-size) ⌝ }
-    ensures { λ r. ⌜ (r ≡ length (still-standing (clock .0) (now (book .entry)) count))
-        × (now (book .exit) ≡ only-places (still-standing (clock .0) (now (book .entry)) count)) ⌝ }
+// Keeps, in order, those of the head's bookings that still stand at its clock, with zeros behind them; answers how many.
+pub fn drop_ended(head: Head, book: &mut [u32]) -> usize
+    requires { ⌜ (head .bookings ≤ most-bookings) × (length (now book) ≡ most-bookings * place-size) ⌝ }
+    ensures { λ r. ⌜ (r ≡ length (still-standing head (now (book .entry)) (head .bookings)))
+        × (now (book .exit) ≡ only-places (still-standing head (now (book .entry)) (head .bookings))) ⌝ }
 {
+    let count = head.bookings as usize;
     let mut kept = 0;
     let mut place = 0;
     while place < count {
-        if stands(book, place, clock) {
+        if stands(book, place, head) {
             copy_place(book, kept, place);
             kept += 1;
         }

@@ -14,7 +14,7 @@ use Rattle.units.proofs.Tests.{Side, below, above, side}
 use Rattle.timeline.specs.Events.{events}
 use Rattle.timeline.proofs.Steady.{NoneBetween}
 use Rattle.free_table.specs.Figures.{kept}
-use Rattle.path_search.specs.declared.LinkEnds.{LinkEnds}
+use Rattle.choice.specs.declared.Search.{Search}
 use Rattle.path_search.specs.declared.Path.{Path}
 use Rattle.path_search.specs.Paths.{Graph, Route, along, none}
 use Rattle.path_search.specs.Answer.{path-of, answer}
@@ -53,7 +53,7 @@ module _ (g : Graph) (usable : ℕ → ℕ → Bool) (from to m : ℕ) (r : Path
 -- ---- the exits
 
 -- a part of the window may be asked for
-pub askable-part : {ends : LinkEnds} {es t : List ℕ} {duration low latest : ℕ} → Askable ends es t duration low latest → (from until : ℕ) → low ≤ from → until ≤ latest → Askable ends es t duration from until
+pub askable-part : {s : Search} {es t : List ℕ} {low latest : ℕ} → Askable s es t low latest → (from until : ℕ) → low ≤ from → until ≤ latest → Askable s es t from until
 askable-part a from until early late = record {
   in-range = a .in-range;
   sized = a .sized;
@@ -66,7 +66,7 @@ askable-part a from until early late = record {
 }
 
 -- each minute alone
-pub askable-at : {ends : LinkEnds} {es t : List ℕ} {duration low latest : ℕ} → Askable ends es t duration low latest → (m : ℕ) → low ≤ m → m ≤ latest → Askable ends es t duration m m
+pub askable-at : {s : Search} {es t : List ℕ} {low latest : ℕ} → Askable s es t low latest → (m : ℕ) → low ≤ m → m ≤ latest → Askable s es t m m
 askable-at a m early late = askable-part a m m early late
 
 module _ (g : Graph) (es t : List ℕ) (bandwidth duration from to low latest c : ℕ) (ts : List ℕ) (shown : es ≡ padded most-events (events c ts)) (early : c ≤ low) where

@@ -16,7 +16,7 @@ use Rattle.timeline.specs.Events.{events}
 use Rattle.timeline.proofs.Steady.{ChangesAt}
 use Rattle.timeline.proofs.Spans.{span-back, last-start, last-start-le, last-start-between, last-start-is}
 use Rattle.free_table.specs.Figures.{kept}
-use Rattle.path_search.specs.declared.LinkEnds.{LinkEnds}
+use Rattle.choice.specs.declared.Search.{Search}
 use Rattle.path_search.specs.declared.Path.{Path}
 use Rattle.path_search.specs.Paths.{Graph}
 use Rattle.path_search.specs.Answer.{graph, path-of}
@@ -26,7 +26,7 @@ use Rattle.path_search.proofs.Paths.{chain-leads}
 use Rattle.path_search.proofs.Answers.{nodes-below}
 use Rattle.choice.specs.declared.Chosen.{Chosen}
 use Rattle.choice.specs.Choice.{Grant, Choice, granted, possible, choose}
-use Rattle.choice.specs.Answer.{suffices, carries, Askable, start-with, refusal, chosen}
+use Rattle.choice.specs.Answer.{suffices, carries, choice-for, Askable, start-with, refusal, chosen}
 use Rattle.choice.specs.Right.{NowhereLower, FreeThroughout, CarriedBy, Best, NonePossible, Right, best, none-possible}
 use Rattle.choice.proofs.Choice.{granted≢no-start, IsGrant, is-grant-only, ChoiceView, grants, grants-none, choose-view}
 use Rattle.choice.proofs.Starts.{possible-more, ChoiceFound, found, none-found, choice-found}
@@ -191,9 +191,8 @@ module _ (g : Graph) (before after : ℕ → ℕ → ℕ) (more : NowhereLower b
           (d, r, elim (decLt (b .start) (d .start)) [ yes k ↦ clash (stays-possible (b .start) (f .passes)) (i .before (b .start) (f .low) k) | no k ↦ omega (arith, ap (λ (x : Grant). x .start) same) ])
 
 -- What `choose` promises is right, by the figures that the lent tables keep.
-pub promise-right : (ends : LinkEnds) (es t : List ℕ) (bandwidth duration source destination low latest : ℕ) → Askable ends es t duration low latest → source ≢ destination → source ≤ last-node
-    → (r : Chosen) → r ≡ chosen (choose (graph ends) (carries (kept es t) bandwidth duration) source destination low latest)
-    → Right (graph ends) (kept es t) bandwidth duration source destination low latest r
-promise-right ends es t bandwidth duration source destination low latest a apart node r e =
-    subst (Right (graph ends) (kept es t) bandwidth duration source destination low latest) (sym e)
-    (choose-right (graph ends) (kept es t) bandwidth duration source destination low latest apart (nodes-below ends (a .in-range)) node)
+pub promise-right : (s : Search) (es t : List ℕ) (low latest : ℕ) → Askable s es t low latest → s .source ≢ s .destination → s .source ≤ last-node
+    → (r : Chosen) → r ≡ chosen (choice-for s es t low latest) → Right (graph (s .ends)) (kept es t) (s .bandwidth .0) (s .span .0) (s .source) (s .destination) low latest r
+promise-right s es t low latest a apart node r e =
+    subst (Right (graph (s .ends)) (kept es t) (s .bandwidth .0) (s .span .0) (s .source) (s .destination) low latest) (sym e)
+    (choose-right (graph (s .ends)) (kept es t) (s .bandwidth .0) (s .span .0) (s .source) (s .destination) low latest apart (nodes-below (s .ends) (a .in-range)) node)

@@ -5,19 +5,23 @@ use mathlib.Core.Bool.{Bool}
 use Prim.Native.Nat.{ℕ, _≤_}
 use lib.Dec.{leb}
 use Rattle.units.specs.declared.Minute.{Minute}
-use Rattle.units.specs.Limits.{most-events, longest, last-minute}
-use Rattle.units.specs.Lists.{Within, padded}
+use Rattle.units.specs.Limits.{most-events, last-shown}
+use Rattle.units.specs.Lists.{padded}
+use Rattle.units.specs.Refusals as refusals
+use Rattle.units.specs.Spans.{release}
 use Rattle.units.specs.Search.{allFrom}
 use Rattle.timeline.specs.Events.{events}
+use Rattle.free_table.specs.Figures.{kept}
 use Rattle.free_table.specs.Looking.{TablesSized}
-use Rattle.path_search.specs.declared.LinkEnds.{LinkEnds}
+use Rattle.path_search.specs.Paths.{Route}
 use Rattle.path_search.specs.declared.Path.{Path}
-use Rattle.path_search.specs.Answer.{InRange, path-of}
+use Rattle.path_search.specs.Answer.{InRange, graph, path-of}
 use Rattle.choice.specs.declared.StartChoice.{StartChoice}
 use Rattle.choice.specs.declared.StartChoice.the-variants.{Start, Refused}
 use Rattle.choice.specs.declared.Chosen.{Chosen}
 use Rattle.choice.specs.declared.ChoiceRecord.{ChoiceRecord}
-use Rattle.choice.specs.Choice.{Choice, granted, no-start}
+use Rattle.choice.specs.declared.Search.{Search}
+use Rattle.choice.specs.Choice.{Choice, granted, no-start, route-at, possible, choose}
 
 -- document 01's 'at least the bandwidth'
 abbrev pub suffices : ℕ → ℕ → Bool
@@ -27,20 +31,30 @@ suffices bandwidth free = leb bandwidth free
 abbrev pub carries : (ℕ → ℕ → ℕ) → ℕ → ℕ → ℕ → ℕ → Bool
 carries figure bandwidth duration m l = allFrom m duration (λ k. suffices bandwidth (figure l k))
 
--- what may be asked: document 01's links, events whose clock is not after low, and a duration and a latest start in range
-pub record Askable (ends : LinkEnds) (es t : List ℕ) (duration low latest : ℕ) : Type 0 where
-  pub in-range : InRange ends
+-- a search on lent tables: what links carry, the route of a start, whether it is possible, and the choice of low to latest
+module _ (s : Search) (es t : List ℕ) where
+  abbrev pub carried : ℕ → ℕ → Bool
+  carried = carries (kept es t) (s .bandwidth .0) (s .span .0)
+
+  abbrev pub route-for : ℕ → Route
+  route-for = route-at (graph (s .ends)) carried (s .source) (s .destination)
+
+  abbrev pub possible-for : ℕ → Bool
+  possible-for = possible (graph (s .ends)) carried (s .source) (s .destination)
+
+  abbrev pub choice-for : ℕ → ℕ → Choice
+  choice-for = choose (graph (s .ends)) carried (s .source) (s .destination)
+
+-- what may be asked: document 01's links, events whose clock is not after low, and a span that ends in time
+pub record Askable (s : Search) (es t : List ℕ) (low latest : ℕ) : Type 0 where
+  pub in-range : InRange (s .ends)
   pub sized : TablesSized es t
   pub clock : ℕ
   pub times : List ℕ
   pub are-events : es ≡ padded most-events (events clock times)
   pub not-past : clock ≤ low
-  pub lasts : Within 1 longest duration
-  pub in-time : latest ≤ last-minute
-
--- document 01's refusal number of a window with no possible start
-abbrev pub no-possible-start : ℕ
-no-possible-start = 8
+  pub lasts : 1 ≤ s .span .0
+  pub in-time : release latest (s .span .0) ≤ last-shown
 
 -- document 01's 'start with its path', as it is answered
 abbrev pub start-with : Minute → Path → Chosen
@@ -48,7 +62,7 @@ start-with start path = record { choice = Start start; path = path }
 
 -- document 01's 'one refusal number', as it is answered: the path is zero
 abbrev pub refusal : Chosen
-refusal = record { choice = Refused no-possible-start; path = path-of [] }
+refusal = record { choice = Refused refusals.no-start; path = path-of [] }
 
 -- a choice as it is answered
 abbrev pub chosen : Choice → Chosen

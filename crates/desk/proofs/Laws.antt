@@ -14,13 +14,14 @@ use lib.Seq.{take-length, ext-getD}
 use Rattle.units.specs.Limits.{most-links}
 use Rattle.units.specs.declared.Link.{Link}
 use Rattle.units.specs.declared.LinkTable.{LinkTable}
-use Rattle.desk_core.specs.Plain.{no-link, link}
-use Rattle.desk_core.specs.Calls.{Call, values}
-use Rattle.desk_core.specs.Tables.{Tables, outcome, sized}
-use Rattle.desk_core.specs.Lent.{granted, listed, list-left, shown, granted-answer, listed-answer, list-after, shown-answer, refusal-answer, head-after, events-after, free-after, book-after}
+use Rattle.rules.specs.Plain.{no-link, link}
+use Rattle.rules.specs.Calls.{Call, values}
+use Rattle.rules.specs.Tables.{Tables, sized}
+use Rattle.rules.specs.Desk.{outcome}
+use Rattle.desk_core.specs.Lent.{granted, listed, list-left, shown, granted-answer, listed-answer, list-after, shown-answer, refusal-answer, tables-after}
 use Rattle.units.specs.LinkTables.{link-at, links-of, column, columns, table-of, empty-table, with-link, at-most-64}
-use Rattle.desk_core.proofs.LinkColumns.{links-count, link-column}
-use Rattle.desk_core.proofs.Exits.{unsized}
+use Rattle.rules.proofs.LinkColumns.{links-count, link-column}
+use Rattle.rules.proofs.Exits.{unsized}
 
 -- ---- how many links have a place
 
@@ -158,18 +159,6 @@ module _ (xs : List Link) (t : Tables) (c : Call) where
   unfolding refusal-answer
   refusal-answer-same = ap (λ o. values (o .answer) .number) outcome-same
 
-  pub head-after-same : head-after (links-of (table-of xs)) t c ≡ head-after xs t c
-  unfolding head-after
-  head-after-same = ap (λ o. o .tables .head) outcome-same
-
-  pub events-after-same : events-after (links-of (table-of xs)) t c ≡ events-after xs t c
-  unfolding events-after
-  events-after-same = ap (λ o. o .tables .events) outcome-same
-
-  pub free-after-same : free-after (links-of (table-of xs)) t c ≡ free-after xs t c
-  unfolding free-after
-  free-after-same = ap (λ o. o .tables .free) outcome-same
-
-  pub book-after-same : book-after (links-of (table-of xs)) t c ≡ book-after xs t c
-  unfolding book-after
-  book-after-same = ap (λ o. o .tables .book) outcome-same
+  pub tables-after-same : tables-after (links-of (table-of xs)) t c ≡ tables-after xs t c
+  unfolding tables-after
+  tables-after-same = ap (λ o. o .tables) outcome-same

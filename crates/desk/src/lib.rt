@@ -7,9 +7,9 @@ use desk_core::Listed;
 use desk_core::Shown;
 use desk_core::cancel;
 use desk_core::list_starts;
+use desk_core::make_booking;
 use desk_core::move_clock;
 use desk_core::offer;
-use desk_core::reserve;
 use desk_core::set_up;
 use desk_core::show;
 use units::Head;
@@ -24,10 +24,11 @@ use units::put;
 ghost use mathlib.Core.Path.{_≡_};
 ghost use Prim.Native.Nat.{_<_};
 ghost use lib.ListN.{length, getD};
-ghost use Rattle.desk_core.specs.Plain.{no-link};
-ghost use Rattle.desk_core.specs.Calls.{Ask, set-up, ask};
+ghost use Rattle.rules.specs.Plain.{no-link};
+ghost use Rattle.rules.specs.Calls.{Ask, set-up, ask};
 ghost use Rattle.units.specs.LinkTables.{table-of};
-ghost use Rattle.desk_core.specs.Lent.{lent, granted-answer, listed-answer, list-after, shown-answer, refusal-answer, head-after, events-after, free-after, book-after};
+ghost use Rattle.rules.specs.Tables.{lent};
+ghost use Rattle.desk_core.specs.Lent.{granted-answer, listed-answer, list-after, shown-answer, refusal-answer, tables-after};
 
 // Link `i` of the list.
 fn link_at(links: &[Link], i: usize) -> Link
@@ -62,10 +63,7 @@ pub extern "C" fn gcr_set_up(
     book: &mut [u32],
 ) -> u32
     ensures { λ r. ⌜ (r ≡ refusal-answer (now (links .entry)) (lent (now (head .entry)) (now (events .entry)) (now (free .entry)) (now (book .entry))) set-up)
-        × (now (head .exit) ≡ head-after (now (links .entry)) (lent (now (head .entry)) (now (events .entry)) (now (free .entry)) (now (book .entry))) set-up)
-        × (now (events .exit) ≡ events-after (now (links .entry)) (lent (now (head .entry)) (now (events .entry)) (now (free .entry)) (now (book .entry))) set-up)
-        × (now (free .exit) ≡ free-after (now (links .entry)) (lent (now (head .entry)) (now (events .entry)) (now (free .entry)) (now (book .entry))) set-up)
-        × (now (book .exit) ≡ book-after (now (links .entry)) (lent (now (head .entry)) (now (events .entry)) (now (free .entry)) (now (book .entry))) set-up) ⌝ }
+        × (lent (now (head .exit)) (now (events .exit)) (now (free .exit)) (now (book .exit)) ≡ tables-after (now (links .entry)) (lent (now (head .entry)) (now (events .entry)) (now (free .entry)) (now (book .entry))) set-up) ⌝ }
 {
     let table = link_table(links);
     let out = set_up(*head, table, events, free, book);
@@ -85,13 +83,10 @@ pub extern "C" fn gcr_book(
     request: Request,
 ) -> ChoiceRecord
     ensures { λ r. ⌜ (r ≡ granted-answer (now (links .entry)) (lent (now (head .entry)) (now (events .entry)) (now (free .entry)) (now (book .entry))) (ask (Ask.book number request)))
-        × (now (head .exit) ≡ head-after (now (links .entry)) (lent (now (head .entry)) (now (events .entry)) (now (free .entry)) (now (book .entry))) (ask (Ask.book number request)))
-        × (now (events .exit) ≡ events-after (now (links .entry)) (lent (now (head .entry)) (now (events .entry)) (now (free .entry)) (now (book .entry))) (ask (Ask.book number request)))
-        × (now (free .exit) ≡ free-after (now (links .entry)) (lent (now (head .entry)) (now (events .entry)) (now (free .entry)) (now (book .entry))) (ask (Ask.book number request)))
-        × (now (book .exit) ≡ book-after (now (links .entry)) (lent (now (head .entry)) (now (events .entry)) (now (free .entry)) (now (book .entry))) (ask (Ask.book number request))) ⌝ }
+        × (lent (now (head .exit)) (now (events .exit)) (now (free .exit)) (now (book .exit)) ≡ tables-after (now (links .entry)) (lent (now (head .entry)) (now (events .entry)) (now (free .entry)) (now (book .entry))) (ask (Ask.book number request))) ⌝ }
 {
     let table = link_table(links);
-    let out = reserve(*head, table, events, free, book, number, request);
+    let out = make_booking(*head, table, events, free, book, number, request);
     *head = out.head;
     out.answer
 }
@@ -142,10 +137,7 @@ pub extern "C" fn gcr_cancel(
     number: u32,
 ) -> u32
     ensures { λ r. ⌜ (r ≡ refusal-answer (now (links .entry)) (lent (now (head .entry)) (now (events .entry)) (now (free .entry)) (now (book .entry))) (ask (Ask.cancel number)))
-        × (now (head .exit) ≡ head-after (now (links .entry)) (lent (now (head .entry)) (now (events .entry)) (now (free .entry)) (now (book .entry))) (ask (Ask.cancel number)))
-        × (now (events .exit) ≡ events-after (now (links .entry)) (lent (now (head .entry)) (now (events .entry)) (now (free .entry)) (now (book .entry))) (ask (Ask.cancel number)))
-        × (now (free .exit) ≡ free-after (now (links .entry)) (lent (now (head .entry)) (now (events .entry)) (now (free .entry)) (now (book .entry))) (ask (Ask.cancel number)))
-        × (now (book .exit) ≡ book-after (now (links .entry)) (lent (now (head .entry)) (now (events .entry)) (now (free .entry)) (now (book .entry))) (ask (Ask.cancel number))) ⌝ }
+        × (lent (now (head .exit)) (now (events .exit)) (now (free .exit)) (now (book .exit)) ≡ tables-after (now (links .entry)) (lent (now (head .entry)) (now (events .entry)) (now (free .entry)) (now (book .entry))) (ask (Ask.cancel number))) ⌝ }
 {
     let table = link_table(links);
     let out = cancel(*head, table, events, free, book, number);
@@ -164,10 +156,7 @@ pub extern "C" fn gcr_move_clock(
     minute: Minute,
 ) -> u32
     ensures { λ r. ⌜ (r ≡ refusal-answer (now (links .entry)) (lent (now (head .entry)) (now (events .entry)) (now (free .entry)) (now (book .entry))) (ask (Ask.move-clock (minute .0))))
-        × (now (head .exit) ≡ head-after (now (links .entry)) (lent (now (head .entry)) (now (events .entry)) (now (free .entry)) (now (book .entry))) (ask (Ask.move-clock (minute .0))))
-        × (now (events .exit) ≡ events-after (now (links .entry)) (lent (now (head .entry)) (now (events .entry)) (now (free .entry)) (now (book .entry))) (ask (Ask.move-clock (minute .0))))
-        × (now (free .exit) ≡ free-after (now (links .entry)) (lent (now (head .entry)) (now (events .entry)) (now (free .entry)) (now (book .entry))) (ask (Ask.move-clock (minute .0))))
-        × (now (book .exit) ≡ book-after (now (links .entry)) (lent (now (head .entry)) (now (events .entry)) (now (free .entry)) (now (book .entry))) (ask (Ask.move-clock (minute .0)))) ⌝ }
+        × (lent (now (head .exit)) (now (events .exit)) (now (free .exit)) (now (book .exit)) ≡ tables-after (now (links .entry)) (lent (now (head .entry)) (now (events .entry)) (now (free .entry)) (now (book .entry))) (ask (Ask.move-clock (minute .0)))) ⌝ }
 {
     let table = link_table(links);
     let out = move_clock(*head, table, events, free, book, minute);

@@ -1,5 +1,5 @@
 -- On fine tables the chooser may be asked, and what it answers is the plain book's best start; so are the ranges listed.
-use mathlib.Core.Path.{_≡_, sym, _∙_, ap, ap₂}
+use mathlib.Core.Path.{_≡_, refl, sym, _∙_, ap, ap₂}
 use mathlib.Core.Bool.{false, and-eq-true-iff}
 use borrow.Author.Tests.{not-true, ltb-true}
 use Prim.Native.Nat.{ℕ, _-_, _≤_, _<_, max}
@@ -10,6 +10,7 @@ use Rattle.units.specs.declared.Minute.{Minute}
 use Rattle.units.specs.declared.Request.{Request}
 use Rattle.units.specs.Limits.{most-links, most-hops, most-bookings, last-number}
 use Rattle.units.specs.Lists.{Within}
+use Rattle.units.specs.Spans.{span-of}
 use Rattle.units.proofs.Tests.{in-range}
 use Rattle.free_table.specs.Figures.{kept}
 use Rattle.free_table.specs.Taking as table-sizes
@@ -25,23 +26,23 @@ use Rattle.choice.specs.Answer.{Askable}
 use Rattle.choice.specs.Answer as answers
 use Rattle.choice.proofs.Figures.{choose-agree, carries-shown}
 use Rattle.choice.proofs.Answers.{started, none-started}
-use Rattle.listing.specs.Ranges.{ranges}
+use Rattle.listing.specs.Ranges.{ranges-for}
 use Rattle.listing.proofs.Laws.{ranges-agree}
 use Rattle.units.specs.declared.LinkTable.{LinkTable}
-use Rattle.desk_core.specs.Plain.{Booking, terms, graph, free, carries, low}
-use Rattle.desk_core.specs.Calls.{Ask, starts, refuse, best, every, stands, number-ok, request-ok, own-checks}
-use Rattle.desk_core.specs.Calls.{chosen as desk-chosen}
-use Rattle.desk_core.specs.Tables.{Tables, held}
+use Rattle.rules.specs.Plain.{Booking, terms, graph, free, carries, low}
+use Rattle.rules.specs.Calls.{Ask, starts, refuse, best, every, stands, number-ok, request-ok, own-checks, chosen as desk-chosen}
+use Rattle.rules.specs.Tables.{Tables, held, Fine}
 use Rattle.units.specs.LinkTables.{links-of}
-use Rattle.desk_core.specs.Lent.{ends-of}
-use Rattle.desk_core.specs.Updating.{Fine, booked, Grantable}
-use Rattle.desk_core.proofs.Checks.{Passed}
-use Rattle.desk_core.proofs.Choices.{GoodGrant, good-best}
-use Rattle.desk_core.proofs.Step.{obeys-booked}
-use Rattle.desk_core.proofs.Uses.{all-times, free-changes}
-use Rattle.desk_core.proofs.Tests.{RequestRight, link-right}
-use Rattle.desk_core.proofs.InOrder.{sizes, book-obeys, events-are, free-are}
-use Rattle.desk_core.proofs.LinkColumns.{links-count, from-column, to-column}
+use Rattle.desk_core.specs.Lent.{ends-of, search-of}
+use Rattle.desk_core.specs.Lent as words
+use Rattle.changes.specs.Updating.{booked, Grantable}
+use Rattle.rules.proofs.Checks.{Passed}
+use Rattle.rules.proofs.Choices.{GoodGrant, good-best}
+use Rattle.rules.proofs.Step.{obeys-booked}
+use Rattle.rules.proofs.Uses.{all-times, free-changes}
+use Rattle.rules.proofs.Tests.{RequestRight, link-right}
+use Rattle.changes.proofs.InOrder.{sizes, book-obeys, events-are, free-are}
+use Rattle.rules.proofs.LinkColumns.{links-count, from-column, to-column}
 
 module _ (links : LinkTable) (t : Tables) (f : Fine (links-of links) t) where
   pub few-links : links .count ≤ most-links
@@ -55,7 +56,7 @@ module _ (links : LinkTable) (t : Tables) (f : Fine (links-of links) t) where
   }
 
   module _ (r : Request) (q : RequestRight r) where
-    pub best-asks : Askable (ends-of links) (t .events) (t .free) (r .duration .0) (max (r .earliest .0) (t .head .clock .0)) (r .latest .0)
+    pub best-asks : Askable (search-of (t .head) links r) (t .events) (t .free) (max (r .earliest .0) (t .head .clock .0)) (r .latest .0)
     best-asks = record {
       in-range = ends-in-range;
       sized = record { events-sized = sizes f .events-right; free-sized = sizes f .free-right };
@@ -63,13 +64,13 @@ module _ (links : LinkTable) (t : Tables) (f : Fine (links-of links) t) where
       times = all-times (held t);
       are-events = events-are f;
       not-past = omega arith;
-      lasts = q .duration-right;
-      in-time = q .latest-right;
+      lasts = q .duration-right .0;
+      in-time = omega (arith, q .duration-right .1, q .latest-right);
     }
 
     -- the choice by the tables, as the chooser promises it
     abbrev pub by-tables : Choice
-    by-tables = choose (search.graph (ends-of links)) (answers.carries (kept (t .events) (t .free)) (r .bandwidth .0) (r .duration .0)) (r .from) (r .to) (max (r .earliest .0) (t .head .clock .0)) (r .latest .0)
+    by-tables = answers.choice-for (search-of (t .head) links r) (t .events) (t .free) (low (held t) r) (r .latest .0)
 
     -- the choice by the plain book
     abbrev pub by-book : Choice
@@ -77,7 +78,7 @@ module _ (links : LinkTable) (t : Tables) (f : Fine (links-of links) t) where
 
     -- the links, and what they carry from low on, are the same
     agree : (m : ℕ) → low (held t) r ≤ m → m ≤ r .latest .0
-        → Agree (search.graph (ends-of links)) (graph (links-of links)) (answers.carries (kept (t .events) (t .free)) (r .bandwidth .0) (r .duration .0) m) (carries (links-of links) (held t) r m)
+        → Agree (search.graph (ends-of links)) (graph (links-of links)) (answers.carried (search-of (t .head) links r) (t .events) (t .free) m) (carries (links-of links) (held t) r m)
     agree m a b = record {
       count = sym (links-count links);
       from = λ l h. sym (from-column links l h);
@@ -85,20 +86,20 @@ module _ (links : LinkTable) (t : Tables) (f : Fine (links-of links) t) where
       usable = λ l h. usable-same m l (omega arith) (rw (links-count links) h);
     }
       where
-        usable-same : (m l : ℕ) → t .head .clock .0 ≤ m → l < length (links-of links) → answers.carries (kept (t .events) (t .free)) (r .bandwidth .0) (r .duration .0) m l ≡ carries (links-of links) (held t) r m l
+        usable-same : (m l : ℕ) → t .head .clock .0 ≤ m → l < length (links-of links) → answers.carried (search-of (t .head) links r) (t .events) (t .free) m l ≡ carries (links-of links) (held t) r m l
         usable-same m l a h =
-            ap₂ (λ es fr. answers.carries (kept es fr) (r .bandwidth .0) (r .duration .0) m l) (events-are f) (free-are f)
-            ∙ carries-shown (length (links-of links)) (free (links-of links) (held t)) (sizes f .links-right .1) (t .head .clock .0) (all-times (held t)) (λ k j. free-changes (links-of links) (held t) k) (r .bandwidth .0) (r .duration .0) m l a h
+            ap₂ (λ es fr. answers.carried (search-of (t .head) links r) es fr m l) (events-are f) (free-are f)
+            ∙ carries-shown (length (links-of links)) (free (links-of links) (held t)) (sizes f .links-right .1) (t .head .clock .0) (all-times (held t)) (λ k j. free-changes (links-of links) (held t) k) (r .bandwidth .0) (span-of (t .head) (r .duration .0)) m l a h
 
     pub same-choice : by-tables ≡ by-book
     same-choice =
-        choose-agree (search.graph (ends-of links)) (graph (links-of links)) (answers.carries (kept (t .events) (t .free)) (r .bandwidth .0) (r .duration .0)) (carries (links-of links) (held t) r) (r .from) (r .to) (low (held t) r) (r .latest .0) agree
+        choose-agree (search.graph (ends-of links)) (graph (links-of links)) (answers.carried (search-of (t .head) links r) (t .events) (t .free)) (carries (links-of links) (held t) r) (r .from) (r .to) (low (held t) r) (r .latest .0) agree
 
     -- the ranges by the tables are those by the plain book
-    pub same-ranges : ranges (search.graph (ends-of links)) (answers.carries (kept (t .events) (t .free)) (r .bandwidth .0) (r .duration .0)) (r .from) (r .to) (low (held t) r) (r .latest .0) ≡ every (links-of links) (held t) r
+    pub same-ranges : ranges-for (search-of (t .head) links r) (t .events) (t .free) (low (held t) r) (r .latest .0) ≡ every (links-of links) (held t) r
     unfolding every
     same-ranges =
-        ranges-agree (search.graph (ends-of links)) (graph (links-of links)) (answers.carries (kept (t .events) (t .free)) (r .bandwidth .0) (r .duration .0)) (carries (links-of links) (held t) r) (r .from) (r .to) (low (held t) r) (r .latest .0) agree
+        ranges-agree (search.graph (ends-of links)) (graph (links-of links)) (answers.carried (search-of (t .head) links r) (t .events) (t .free)) (carries (links-of links) (held t) r) (r .from) (r .to) (low (held t) r) (r .latest .0) agree
 
     -- a start that the chooser answers is the plain book's grant, with its path
     pub record Started (start : Minute) (path : Path) : Type 0 where
@@ -123,6 +124,15 @@ module _ (links : LinkTable) (t : Tables) (f : Fine (links-of links) t) where
     pub best-none : by-book ≡ no-start → best (links-of links) (held t) r ≡ refuse 8
     unfolding best
     best-none e = ap desk-chosen e
+
+    -- and its record
+    pub told : (a : Chosen) → a ≡ answers.chosen by-tables → answers.values a ≡ words.granted (best (links-of links) (held t) r)
+    unfolding best
+    told a e = ap (λ x. answers.values x) e ∙ by by-tables ∙ ap (λ c. words.granted (desk-chosen c)) same-choice
+      where
+        by : (c : Choice) → answers.values (answers.chosen c) ≡ words.granted (desk-chosen c)
+        by (granted g) = refl
+        by no-start = refl
 
     -- the booking that is entered is the one of the grant
     module _ (number : ℕ) (start : Minute) (path : Path) (s : Started start path) where

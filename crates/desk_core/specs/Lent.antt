@@ -1,24 +1,28 @@
--- What the contracts of the seven calls say: the answer and each table as it is handed back, from the one outcome.
+-- What the contracts of the seven calls say: the answer and the tables as they are handed back, from the one outcome.
 use mathlib.Core.List.{List}
 use Prim.Native.Nat.{ℕ}
 use Rattle.units.specs.declared.Link.{Link}
 use Rattle.units.specs.declared.Head.{Head}
+use Rattle.units.specs.Spans.{span-of}
 use Rattle.units.specs.declared.LinkTable.{LinkTable}
 use Rattle.path_search.specs.declared.LinkEnds.{LinkEnds}
 use Rattle.choice.specs.declared.ChoiceRecord.{ChoiceRecord}
+use Rattle.choice.specs.declared.Search.{Search}
+use Rattle.units.specs.declared.Request.{Request}
 use Rattle.listing.specs.Ranges.{list-table}
 use Rattle.desk_core.specs.declared.Shown.{Shown}
 use Rattle.desk_core.specs.declared.Listed.{Listed}
-use Rattle.desk_core.specs.Calls.{Call, Answer, done, starts, lists, shows, refused, values}
-use Rattle.desk_core.specs.Tables.{Tables, outcome}
-
--- the tables as they are lent
-abbrev pub lent : Head → List ℕ → List ℕ → List ℕ → Tables
-lent head events free places = record { head = head; events = events; free = free; book = places }
+use Rattle.rules.specs.Calls.{Call, Answer, done, starts, lists, shows, refused, values}
+use Rattle.rules.specs.Tables.{Tables}
+use Rattle.rules.specs.Desk.{outcome}
 
 -- the ends of the links alone, as the path search takes them
 abbrev pub ends-of : LinkTable → LinkEnds
 ends-of t = record { count = t .count; from = t .from; to = t .to }
+
+-- what a request asks of any start on these links
+abbrev pub search-of : Head → LinkTable → Request → Search
+search-of head t r = record { ends = ends-of t; source = r .from; destination = r .to; bandwidth = r .bandwidth; span = record { 0 = span-of head (r .duration .0) } }
 
 -- an answer's number and values, for a booking or an offer, for a listing, and for a showing
 abbrev pub granted : Answer → ChoiceRecord
@@ -55,14 +59,6 @@ module _ (links : List Link) (t : Tables) (c : Call) where
   unfoldable pub refusal-answer : ℕ
   refusal-answer = values (outcome links t c .answer) .number
 
-  unfoldable pub head-after : Head
-  head-after = outcome links t c .tables .head
-
-  unfoldable pub events-after : List ℕ
-  events-after = outcome links t c .tables .events
-
-  unfoldable pub free-after : List ℕ
-  free-after = outcome links t c .tables .free
-
-  unfoldable pub book-after : List ℕ
-  book-after = outcome links t c .tables .book
+  -- the tables that are handed back
+  unfoldable pub tables-after : Tables
+  tables-after = outcome links t c .tables

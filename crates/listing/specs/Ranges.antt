@@ -6,7 +6,10 @@ use lib.Dec.{eqb}
 use Rattle.units.specs.Limits.{list-size}
 use Rattle.units.specs.Lists.{padded}
 use Rattle.path_search.specs.Paths.{Graph}
+use Rattle.path_search.specs.Answer.{graph}
+use Rattle.choice.specs.declared.Search.{Search}
 use Rattle.choice.specs.Choice.{Choice, granted, no-start, possible}
+use Rattle.choice.specs.Answer.{carried}
 
 -- a range of minutes: its first and its last
 pub record Range : Type 0 where
@@ -32,6 +35,10 @@ rangesFrom i (suc n) test = elim (test i) [ true ↦ put-first i (rangesFrom (su
 module _ (g : Graph) (carries : ℕ → ℕ → Bool) (from to : ℕ) where
   unfoldable pub ranges : ℕ → ℕ → List Range
   ranges low latest = rangesFrom low (suc latest - low) (possible g carries from to)
+
+-- those of a search on lent tables
+abbrev pub ranges-for : Search → List ℕ → List ℕ → ℕ → ℕ → List Range
+ranges-for s es t = ranges (graph (s .ends)) (carried s es t) (s .source) (s .destination)
 
 -- first and last of each
 unfoldable pub figures : List Range → List ℕ

@@ -9,26 +9,25 @@ use Rattle.units.specs.declared.Request.{Request}
 use Rattle.path_search.specs.declared.Path.{Path}
 use Rattle.path_search.specs.Answer.{path-of}
 use Rattle.choice.specs.declared.ChoiceRecord.{ChoiceRecord}
-use Rattle.record.specs.declared.Order.{Order}
-use Rattle.record.specs.declared.OrderRead.{OrderRead}
-use Rattle.record.specs.declared.OrderRead.the-variants as reads
-use Rattle.record.specs.Records.{if-passed}
+use Rattle.layout.specs.declared.Order.{Order}
+use Rattle.layout.specs.declared.OrderRead.{OrderRead}
+use Rattle.layout.specs.declared.OrderRead.the-variants as reads
+use Rattle.layout.specs.Records.{if-passed}
 use Rattle.report.specs.declared.Report.{Report}
 use Rattle.report.specs.declared.Report.the-variants as reports
-use Rattle.desk_core.specs.Calls.{Ask, Call, ask, Values, values}
-use Rattle.desk_core.specs.Tables.{Tables, outcome}
-use Rattle.desk_core.specs.Lent.{lent, granted-answer, refusal-answer, head-after, events-after, free-after, book-after}
+use Rattle.histories.specs.Kinds as kinds
+use Rattle.rules.specs.Calls.{Ask, Call, ask, Values, values}
+use Rattle.rules.specs.Tables.{Tables, lent}
+use Rattle.rules.specs.Desk.{outcome}
+use Rattle.desk_core.specs.Lent.{granted-answer, refusal-answer, tables-after}
+use Rattle.desk_core.proofs.Handed.{Back}
 use Rattle.orders.specs.Ordered.{call-of, accepted, reported, path-shown, answered, by-reading, handed}
 
 module _ (links : List Link) (t : Tables) where
-  -- the tables that a call hands back, as its contract puts them
-  abbrev pub Back : Call → Head → List ℕ → List ℕ → List ℕ → Type 0
-  Back c head events free places = (head ≡ head-after links t c) × (events ≡ events-after links t c) × (free ≡ free-after links t c) × (places ≡ book-after links t c)
-
   -- an offer's are the ones that were lent
-  pub offer-keeps : (r : Request) → Back (ask (Ask.offer r)) (t .head) (t .events) (t .free) (t .book)
-  unfolding head-after events-after free-after book-after outcome
-  offer-keeps r = (refl, refl, refl, refl)
+  pub offer-keeps : (r : Request) → Back links t (ask (Ask.offer r)) (t .head) (t .events) (t .free) (t .book)
+  unfolding tables-after kinds.outcome
+  offer-keeps r = refl
 
   -- an order that cannot be read keeps them too
   pub unread : {number : ℕ} {path : Path} {read : OrderRead} → path ≡ path-of [] → read ≡ reads.Refused number
@@ -54,18 +53,18 @@ module _ (links : List Link) (t : Tables) where
     carried e = record { number-same = ap (λ x. x .refusal) e; start-same = ap (λ x. x .start) e; path-same = ap (λ x. x .path) e }
 
   module _ (order : Order) {head : Head} {path : Path} {events free places : List ℕ} where
-    given : {report : Report} → report ≡ reported order (said (call-of order)) → path ≡ path-shown order (said (call-of order)) → Back (call-of order) head events free places
+    given : {report : Report} → report ≡ reported order (said (call-of order)) → path ≡ path-shown order (said (call-of order)) → Back links t (call-of order) head events free places
         → handed (record { head = head; report = report; path = path }) events free places ≡ answered links t order
-    unfolding answered head-after events-after free-after book-after
-    given r p b = λ i. record { report = r i; path = p i; tables = record { head = b .0 i; events = b .1 i; free = b .2 i; book = b .3 i } }
+    unfolding answered tables-after
+    given r p b = λ i. record { report = r i; path = p i; tables = b i }
 
     -- a number that is not 0 is that of a refusal
-    pub refused : {k : ℕ} → k ≡ said (call-of order) .number → (k ≡ 0 → ⊥) → path ≡ path-shown order (said (call-of order)) → Back (call-of order) head events free places
+    pub refused : {k : ℕ} → k ≡ said (call-of order) .number → (k ≡ 0 → ⊥) → path ≡ path-shown order (said (call-of order)) → Back links t (call-of order) head events free places
         → handed (record { head = head; report = reports.Refused k; path = path }) events free places ≡ answered links t order
     refused {k} e ne p b =
         given (ap reports.Refused e ∙ ap (λ x. if-passed x (accepted order (said (call-of order))) (reports.Refused (said (call-of order) .number))) (sym (ne-eqb (said (call-of order) .number) 0 (λ z. ne (e ∙ z))))) p b
 
     -- 0 is that of an accepted call
     pub done : {k : ℕ} {report : Report} → k ≡ said (call-of order) .number → k ≡ 0 → report ≡ accepted order (said (call-of order)) → path ≡ path-shown order (said (call-of order))
-        → Back (call-of order) head events free places → handed (record { head = head; report = report; path = path }) events free places ≡ answered links t order
+        → Back links t (call-of order) head events free places → handed (record { head = head; report = report; path = path }) events free places ≡ answered links t order
     done e z r p b = given (r ∙ ap (λ x. if-passed x (accepted order (said (call-of order))) (reports.Refused (said (call-of order) .number))) (sym (eq-eqb (said (call-of order) .number) 0 (sym e ∙ z)))) p b

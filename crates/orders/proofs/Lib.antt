@@ -1,4 +1,2 @@
 pub mod Answering
 pub mod Short
-pub mod Columns
-pub mod Opening

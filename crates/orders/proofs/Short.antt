@@ -12,14 +12,16 @@ use Rattle.units.proofs.Search.{IsFirst, firstFrom-found}
 use Rattle.path_search.specs.Paths.{Graph, Route, along, none, reaches, lowest, fewest, route-of, route}
 use Rattle.path_search.proofs.Chains.{lowest-length}
 use Rattle.choice.specs.Choice.{route-at, grant-at, choice-at, possible, choose}
-use Rattle.record.specs.declared.Order.the-variants as orders
-use Rattle.record.specs.declared.OrderRead.{OrderRead}
-use Rattle.record.specs.declared.OrderRead.the-variants as reads
-use Rattle.record.specs.Records.{order-read}
-use Rattle.record.specs.Values.{request-of}
-use Rattle.desk_core.specs.Plain.{Plain, low, graph, carries}
-use Rattle.desk_core.specs.Calls.{Ask, book, offer, list, cancel, move-clock, show, ask, Answer, values, Check, check, checked, own-checks, chosen, best, result, answer}
-use Rattle.desk_core.specs.Tables.{Tables, held, table-checks, answer-on, outcome}
+use Rattle.layout.specs.declared.Order.the-variants as orders
+use Rattle.layout.specs.declared.OrderRead.{OrderRead}
+use Rattle.layout.specs.declared.OrderRead.the-variants as reads
+use Rattle.layout.specs.Records.{order-read}
+use Rattle.layout.specs.Values.{request-of}
+use Rattle.rules.specs.Plain.{Plain, low, graph, carries}
+use Rattle.histories.specs.Kinds as kinds
+use Rattle.rules.specs.Calls.{Ask, book, offer, list, cancel, move-clock, show, ask, Answer, refuse, values, Check, check, checked, own-checks, chosen, best, result}
+use Rattle.rules.specs.Tables.{Tables, held, table-checks}
+use Rattle.rules.specs.Desk.{answer, outcome}
 use Rattle.orders.specs.Ordered.{by-reading, answered, ordered}
 
 abbrev Short : Answer → Type 0
@@ -48,7 +50,7 @@ choose-short g carries from to low latest = by (firstFrom low _ (possible g carr
     by (at m) = along-short m (route-at g carries from to m) refl
     by nothing = omega arith
 
-checked-short : (cs : List Check) (a : Answer) → Short a → Short (checked cs a)
+checked-short : (cs : List Check) (a : Answer) → Short a → Short (checked refuse cs a)
 unfolding checked
 checked-short [] a h = h
 checked-short (check k true ∷ cs) a h = checked-short cs a h
@@ -64,7 +66,7 @@ result-short links p (move-clock m) = omega arith
 result-short links p (show l m) = omega arith
 
 outcome-short : (links : List Link) (t : Tables) (a : Ask) → Short (outcome links t (ask a) .answer)
-unfolding outcome answer-on answer
+unfolding kinds.outcome kinds.answer-on kinds.answer
 outcome-short links t a =
     checked-short (table-checks links t (ask a)) (answer links (held t) a) (checked-short (own-checks links (held t) a) (result links (held t) a) (result-short links (held t) a))
 

@@ -6,18 +6,18 @@ use lib.ListN.{take}
 use Rattle.units.specs.declared.Link.{Link}
 use Rattle.path_search.specs.declared.Path.{Path}
 use Rattle.path_search.specs.Answer.{path-of}
-use Rattle.record.specs.declared.Order.{Order}
-use Rattle.record.specs.declared.Order.the-variants as orders
-use Rattle.record.specs.declared.OrderRead.{OrderRead}
-use Rattle.record.specs.declared.OrderRead.the-variants as reads
-use Rattle.record.specs.Records.{if-passed, order-read}
-use Rattle.record.specs.Values.{request-of}
+use Rattle.layout.specs.declared.Order.{Order}
+use Rattle.layout.specs.declared.Order.the-variants as orders
+use Rattle.layout.specs.declared.OrderRead.{OrderRead}
+use Rattle.layout.specs.declared.OrderRead.the-variants as reads
+use Rattle.layout.specs.Records.{if-passed, order-read}
+use Rattle.layout.specs.Values.{request-of}
 use Rattle.report.specs.declared.Report.{Report}
 use Rattle.report.specs.declared.Report.the-variants as reports
 use Rattle.report.specs.Line.{line}
-use Rattle.desk_core.specs.Calls.{Ask, Call, ask, Answer, Values, values}
-use Rattle.desk_core.specs.Tables.{Tables, Outcome, outcome}
-use Rattle.desk_core.specs.Lent.{lent}
+use Rattle.rules.specs.Calls.{Ask, Call, ask, Answer, Values, values}
+use Rattle.rules.specs.Tables.{Tables, lent}
+use Rattle.rules.specs.Desk.{Outcome, outcome}
 use Rattle.orders.specs.declared.Answered.{Answered}
 
 -- what the line of an order says, the path beside it, and the tables that the order leaves

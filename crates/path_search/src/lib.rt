@@ -223,7 +223,7 @@ fn walk(ends: LinkEnds, set: LinkSet, table: [u32; NODES], source: u32, count: u
 }
 
 // The answer where there is no path.
-fn no_path() -> Path
+pub fn no_path() -> Path
     ensures { λ r. ⌜ r ≡ path-of [] ⌝ }
 {
     Path {

@@ -1,12 +1,16 @@
 // The program: a session of orders from standard input to standard output, in large blocks. It decides nothing: what a
-// desk and an order are answered, and how the line reads, is in the crate `orders`. Any input ends in an orderly way; a
+// desk and an order are answered, and how the line reads, is in the crates `opening` and `orders`. Any input ends in an orderly way; a
 // read that fails ends the input.
+use layout::FIRST_BYTES;
+use layout::LEAD_BYTES;
+use layout::LINK_BYTES;
+use layout::ORDER_BYTES;
 use libc::STDIN_FILENO;
 use libc::STDOUT_FILENO;
+use opening::open_desk;
+use opening::write_opened;
 use orders::Line;
-use orders::open_desk;
 use orders::run_order;
-use orders::write_opened;
 use report::MAX_LINE;
 use units::BOOK_FIGURES;
 use units::EVENTS;
@@ -17,14 +21,8 @@ use units::Minute;
 ghost use mathlib.Core.Path.{_≡_};
 ghost use Prim.Native.Nat.{_+_, _≤_, _<_};
 ghost use lib.ListN.{length};
+ghost use Rattle.layout.specs.Layout.{most-first-bytes};
 ghost use Rattle.report.specs.Line.{max-line};
-
-// The bytes of an order, of a link, and of the most links that a first byte can count with that byte.
-const ORDER_BYTES: usize = 16;
-
-const LINK_BYTES: usize = 8;
-
-const FIRST_BYTES: usize = 1 + 255 * LINK_BYTES;
 
 // How many bytes came where one was asked for, and the byte.
 struct FirstByte {
@@ -51,18 +49,18 @@ fn read_byte() -> FirstByte {
 
 // Reads as many link records as the first byte counts, to stand behind it; answers how many bytes there are then.
 fn read_records(first: &mut [u8], count: u8) -> usize
-    requires { ⌜ length (now first) ≡ 2041 ⌝ }
-    ensures { λ r. ⌜ r ≤ 2041 ⌝ }
+    requires { ⌜ length (now first) ≡ most-first-bytes ⌝ }
+    ensures { λ r. ⌜ r ≤ most-first-bytes ⌝ }
 {
-    let end = 1 + count as usize * LINK_BYTES;
-    let records = io::read_full(STDIN_FILENO, &mut first[1..end]);
-    1 + records
+    let end = LEAD_BYTES + count as usize * LINK_BYTES;
+    let records = io::read_full(STDIN_FILENO, &mut first[LEAD_BYTES..end]);
+    LEAD_BYTES + records
 }
 
 // Reads the first byte of the session and its link records; answers how many bytes came.
 fn read_first(first: &mut [u8]) -> usize
-    requires { ⌜ length (now first) ≡ 2041 ⌝ }
-    ensures { λ r. ⌜ r ≤ 2041 ⌝ }
+    requires { ⌜ length (now first) ≡ most-first-bytes ⌝ }
+    ensures { λ r. ⌜ r ≤ most-first-bytes ⌝ }
 {
     let byte = read_byte();
     if byte.came == 0 {

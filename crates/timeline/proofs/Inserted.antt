@@ -11,7 +11,7 @@ use lib.Dec.{ltb}
 use lib.ListN.{length, getD, take, drop, replicate, take-append-drop, length-append}
 use lib.Seq.{take-at, drop-append-add, length-take-le}
 use Rattle.units.specs.Limits.{most-links, most-events}
-use Rattle.units.specs.Lists.{padded, member, put-in}
+use Rattle.units.specs.Lists.{padded, member, put-piece}
 use Rattle.units.proofs.Tests.{member-tells, absent, Rising, Side, below, above, side}
 use Rattle.units.proofs.Padded.{length-padded, padded-at, padded-insert, rows, length-rows, all-rows, rows-insert}
 use Rattle.timeline.specs.Events.{later, events, further, row-at}
@@ -118,7 +118,7 @@ module _ (c m : ℕ) (ts : List ℕ) where
       some : c < m → member m (later c ts) ≡ false → length (events c ts) ≤ n
       some h a = omega (arith, enough h a, simp length-append at (ap length joined))
 
-      event-new : c < m → member m (later c ts) ≡ false → put-in (suc place) (m ∷ []) table ≡ padded n (events c (m ∷ ts))
+      event-new : c < m → member m (later c ts) ≡ false → put-piece (suc place) (m ∷ []) table ≡ padded n (events c (m ∷ ts))
       event-new h a =
           sym
           (ap (padded n) (sym (around h a))
@@ -132,7 +132,7 @@ module _ (c m : ℕ) (ts : List ℕ) where
         where
           by : Arrival c m ts → with-event m table ≡ padded n (events c (m ∷ ts))
           by (known h e) = with-event-there m table (there h) ∙ ap (λ (l : List ℕ). padded n (c ∷ l)) (sym e)
-          by (new h b a) = with-event-new m table (missed b) ∙ ap (λ i. put-in (suc i) (m ∷ []) table) (row-slot n c m ts a) ∙ event-new h a
+          by (new h b a) = with-event-new m table (missed b) ∙ ap (λ i. put-piece (suc i) (m ∷ []) table) (row-slot n c m ts a) ∙ event-new h a
 
       module _ (f : ℕ → List ℕ) (k : ℕ) (sized : (e : ℕ) → length (f e) ≡ k) (s : ChangesAt ts f) where
         abbrev all : List ℕ → List ℕ
@@ -140,7 +140,7 @@ module _ (c m : ℕ) (ts : List ℕ) where
 
         -- a copy of the row that stands at i put in behind it
         abbrev copy-in : ℕ → List ℕ → List ℕ
-        copy-in i t = put-in (suc i * k) (take k (drop (i * k) t)) t
+        copy-in i t = put-piece (suc i * k) (take k (drop (i * k) t)) t
 
         row-new : c < m → member m (later c ts) ≡ false → copy-in place (all (events c ts)) ≡ all (events c (m ∷ ts))
         row-new h a =

@@ -11,7 +11,7 @@ use borrow.Author.Tests.{lt-ltb, le-ltb, ltb-true}
 use Rattle.units.specs.Limits.{most-events}
 use Rattle.timeline.specs.Events.{further, passed, row-at}
 use Rattle.timeline.specs.EventTable.{filled, count-events}
-use Rattle.units.specs.Lists.{put-in}
+use Rattle.units.specs.Lists.{put-piece}
 use Rattle.timeline.specs.Insertion.{missing, if-missing, with-event, with-row, Room}
 use Rattle.units.proofs.Pieces.{put-in-part}
 
@@ -47,36 +47,36 @@ module _ (m : ℕ) (es : List ℕ) where
   unfolding with-row
   with-row-there width rows h = rw (le-ltb (getD es (row-at es m) 0) m h)
 
-  pub with-event-new : getD es (row-at es m) 0 < m → with-event m es ≡ put-in (suc (row-at es m)) (m ∷ []) es
+  pub with-event-new : getD es (row-at es m) 0 < m → with-event m es ≡ put-piece (suc (row-at es m)) (m ∷ []) es
   unfolding with-event
   with-event-new h = rw (lt-ltb (getD es (row-at es m) 0) m h)
 
   pub with-row-new : (width : ℕ) (rows : List ℕ) → getD es (row-at es m) 0 < m
-      → with-row width es m rows ≡ put-in (suc (row-at es m) * width) (take width (drop (row-at es m * width) rows)) rows
+      → with-row width es m rows ≡ put-piece (suc (row-at es m) * width) (take width (drop (row-at es m * width) rows)) rows
   unfolding with-row
   with-row-new width rows h = rw (lt-ltb (getD es (row-at es m) 0) m h)
 
 -- what the code does to the two tables behind row i, where that is the row that holds
 module _ (m : ℕ) (es : List ℕ) (i : ℕ) (found : i ≡ row-at es m) (h : getD es i 0 < m) where
-  pub event-put : take i es ++ put-in 1 (m ∷ []) (drop i es) ≡ with-event m es
-  event-put = put-in-part i 1 (m ∷ []) es ∙ ap (λ j. put-in j (m ∷ []) es) (add-one i ∙ ap suc found) ∙ sym (with-event-new m es (rw found at h))
+  pub event-put : take i es ++ put-piece 1 (m ∷ []) (drop i es) ≡ with-event m es
+  event-put = put-in-part i 1 (m ∷ []) es ∙ ap (λ j. put-piece j (m ∷ []) es) (add-one i ∙ ap suc found) ∙ sym (with-event-new m es (rw found at h))
 
-  pub row-put : (width : ℕ) (rows : List ℕ) → take (i * width) rows ++ put-in width (take width (drop (i * width) rows)) (drop (i * width) rows) ≡ with-row width es m rows
+  pub row-put : (width : ℕ) (rows : List ℕ) → take (i * width) rows ++ put-piece width (take width (drop (i * width) rows)) (drop (i * width) rows) ≡ with-row width es m rows
   row-put width rows =
       let e : i * width + width ≡ suc i * width = omega arith in
       put-in-part (i * width) width (take width (drop (i * width) rows)) rows
-      ∙ rw e (ap (λ j. put-in (suc j * width) (take width (drop (j * width) rows)) rows) found ∙ sym (with-row-new m es width rows (rw found at h)))
+      ∙ rw e (ap (λ j. put-piece (suc j * width) (take width (drop (j * width) rows)) rows) found ∙ sym (with-row-new m es width rows (rw found at h)))
 
 -- ---- sizes
 
-pub length-put-in : (at : ℕ) (piece l : List ℕ) → at + length piece ≤ length l → length (put-in at piece l) ≡ length l
+pub length-put-in : (at : ℕ) (piece l : List ℕ) → at + length piece ≤ length l → length (put-piece at piece l) ≡ length l
 length-put-in at piece l h = simp (length-append, length-take, length-drop) (omega arith)
 
 pub length-with-event : (m : ℕ) {es rows : List ℕ} {more : ℕ} → Room es rows (suc more) → length (with-event m es) ≡ length es
 unfolding with-event
 length-with-event m {es} {rows} {more} r = by (missing es m)
   where
-    by : (t : Bool) → length (if-missing t (put-in (suc (row-at es m)) (m ∷ []) es) es) ≡ length es
+    by : (t : Bool) → length (if-missing t (put-piece (suc (row-at es m)) (m ∷ []) es) es) ≡ length es
     by true = length-put-in (suc (row-at es m)) (m ∷ []) es (omega (arith, row-fits m r))
     by false = refl
 
@@ -112,7 +112,7 @@ unfolding with-event row-at count-events
 count-with-event m [] h = absurd (omega arith)
 count-with-event m (c ∷ es) h = by (missing (c ∷ es) m) refl
   where
-    by : (t : Bool) → missing (c ∷ es) m ≡ t → count-events (if-missing t (put-in (suc (passed m es)) (m ∷ []) (c ∷ es)) (c ∷ es)) ≤ suc (suc (filled es))
+    by : (t : Bool) → missing (c ∷ es) m ≡ t → count-events (if-missing t (put-piece (suc (passed m es)) (m ∷ []) (c ∷ es)) (c ∷ es)) ≤ suc (suc (filled es))
     by true e = omega (arith, filled-put m (length (c ∷ es) - (suc (passed m es) + 1)) es (omega (arith, ltb-true (getD (c ∷ es) (passed m es) 0) m e)))
     by false e = omega arith
 

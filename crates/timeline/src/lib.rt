@@ -4,12 +4,13 @@
 use units::Minute;
 use units::ROW;
 use units::clear_from;
+use units::shift_up;
 ghost use mathlib.Core.Path.{_≡_};
 ghost use mathlib.Core.List.{[], _∷_};
 ghost use Prim.Native.Nat.{_+_, _≤_};
 ghost use lib.ListN.{length, take};
 ghost use Rattle.units.specs.Limits.{most-links, most-events};
-ghost use Rattle.units.specs.Lists.{put-in};
+ghost use Rattle.units.specs.Lists.{put-piece};
 ghost use Rattle.timeline.specs.Events.{row-at};
 ghost use Rattle.timeline.specs.EventTable.{count-events, only-clock};
 ghost use Rattle.timeline.specs.Insertion.{with-event, with-row, with-span, with-span-rows, Room};
@@ -64,25 +65,17 @@ pub extern "C" fn reset_events(events: &mut [u32], clock: Minute)
 // Puts the first row of the part in again behind itself; the rows behind it move up, and the last is dropped.
 fn repeat_row(part: &mut [u32])
     requires { ⌜ most-links + most-links ≤ length (now part) ⌝ }
-    ensures { λ _. ⌜ now (part .exit) ≡ put-in most-links (take most-links (now (part .entry))) (now (part .entry)) ⌝ }
+    ensures { λ _. ⌜ now (part .exit) ≡ put-piece most-links (take most-links (now (part .entry))) (now (part .entry)) ⌝ }
 {
-    let mut i = part.len();
-    while ROW < i {
-        i -= 1;
-        part[i] = part[i - ROW];
-    }
+    shift_up(part, ROW);
 }
 
 // Puts an event in behind the first of the part; the events behind it move up, and the last place is dropped.
 fn put_event(part: &mut [u32], minute: Minute)
     requires { ⌜ 2 ≤ length (now part) ⌝ }
-    ensures { λ _. ⌜ now (part .exit) ≡ put-in 1 (minute .0 ∷ []) (now (part .entry)) ⌝ }
+    ensures { λ _. ⌜ now (part .exit) ≡ put-piece 1 (minute .0 ∷ []) (now (part .entry)) ⌝ }
 {
-    let mut i = part.len();
-    while 1 < i {
-        i -= 1;
-        part[i] = part[i - 1];
-    }
+    shift_up(part, 1);
     part[1] = minute.0;
 }
 

@@ -1,11 +1,12 @@
 // The quantities of a reservation, each with a type of its own, the records that calls pass by value, and the limits
-// of document 01; links as columns; and zeros for what a table does not use. Every crate uses them; nothing here decides
-// anything.
+// of document 01; its refusal numbers; the end of a span; links as columns; and zeros for what a table does not use. Every
+// crate uses them; nothing here decides anything.
 ghost use mathlib.Core.Path.{_≡_};
 ghost use mathlib.Core.List.{_++_};
 ghost use Prim.Native.Nat.{_-_, _≤_, _<_};
 ghost use lib.ListN.{length, take, replicate};
-ghost use Rattle.units.specs.Limits.{most-links};
+ghost use Rattle.units.specs.Limits.{most-links, last-shown};
+ghost use Rattle.units.specs.Spans.{span-of, most-span, release};
 ghost use Rattle.units.specs.LinkTables.{empty-table, with-link, at-most-64};
 
 // The last node; nodes are numbered from 0.
@@ -55,6 +56,33 @@ pub const RANGES: usize = EVENTS;
 // The figures of the list of ranges: first and last of each.
 pub const LIST_FIGURES: usize = RANGES * 2;
 
+// The refusal numbers of documents 01 and 02; 0 is the number of an accepted call.
+pub const BAD_SIZE: u32 = 1;
+
+pub const BAD_LINK: u32 = 2;
+
+pub const UNSOUND: u32 = 3;
+
+pub const BAD_FIELD: u32 = 4;
+
+pub const TOO_LATE: u32 = 5;
+
+pub const NUMBER_STANDS: u32 = 6;
+
+pub const BOOK_FULL: u32 = 7;
+
+pub const NO_START: u32 = 8;
+
+pub const NOT_STANDING: u32 = 9;
+
+pub const CLOCK_BACK: u32 = 10;
+
+pub const BAD_BITS: u32 = 11;
+
+pub const BAD_LENGTH: u32 = 12;
+
+pub const BAD_LIST: u32 = 13;
+
 // A point in time, in whole minutes.
 #[repr(C)]
 pub struct Minute(pub u32);
@@ -96,6 +124,36 @@ pub struct Head {
     pub clock: Minute,
     pub links: u32,
     pub bookings: u32,
+}
+
+// The minutes for which a booking of a duration holds its links.
+pub fn span_of(head: Head, duration: Duration) -> u64
+    ensures { λ r. ⌜ r ≡ span-of head (duration .0) ⌝ }
+{
+    duration.0 as u64
+}
+
+// The end of a span: the first minute after it. Nothing else adds a start and a span.
+pub fn end_of(start: Minute, span: u64) -> u64
+    requires { ⌜ span ≤ most-span ⌝ }
+    ensures { λ r. ⌜ r ≡ release (start .0) span ⌝ }
+{
+    start.0 as u64 + span
+}
+
+// The same, of a span that ends at a minute for which a free figure may be asked.
+pub fn end_minute(start: Minute, span: Duration) -> Minute
+    requires { ⌜ release (start .0) (span .0) ≤ last-shown ⌝ }
+    ensures { λ r. ⌜ r .0 ≡ release (start .0) (span .0) ⌝ }
+{
+    Minute(end_of(start, span.0 as u64) as u32)
+}
+
+// The minute at which a booking releases its links.
+pub fn release(head: Head, start: Minute, duration: Duration) -> u64
+    ensures { λ r. ⌜ r ≡ release (start .0) (span-of head (duration .0)) ⌝ }
+{
+    end_of(start, span_of(head, duration))
 }
 
 // The list of links by value: its true length, and a column for each field of the first 64 links, zero past the last.
@@ -146,5 +204,17 @@ pub fn clear_from(table: &mut [u32], from: usize)
     while i < table.len() {
         table[i] = 0;
         i += 1;
+    }
+}
+
+// Moves what stands in the part up by `by` places; the first of them keep what they held, and what has no room is dropped.
+pub fn shift_up(part: &mut [u32], by: usize)
+    requires { ⌜ by ≤ length (now part) ⌝ }
+    ensures { λ _. ⌜ now (part .exit) ≡ take by (now (part .entry)) ++ take (length (now (part .entry)) - by) (now (part .entry)) ⌝ }
+{
+    let mut i = part.len();
+    while by < i {
+        i -= 1;
+        part[i] = part[i - by];
     }
 }

@@ -79,17 +79,23 @@ mod exported {
     #[repr(C)]
     pub struct Quantity(pub u32);
 
+    /// What is asked of any start.
+    #[repr(C)]
+    pub struct Search {
+        pub ends: LinkEnds,
+        pub source: u32,
+        pub destination: u32,
+        pub bandwidth: Quantity,
+        pub span: Quantity,
+    }
+
     extern "C" {
         pub fn choose_start(
-            ends: LinkEnds,
+            search: Search,
             events: *const u32,
             event_places: usize,
             free: *const u32,
             free_places: usize,
-            source: u32,
-            destination: u32,
-            bandwidth: Quantity,
-            duration: Quantity,
             low: Quantity,
             latest: Quantity,
         ) -> ChoiceRecord;
@@ -122,19 +128,21 @@ pub fn choose_start(ends: &LinkEnds, tables: &Tables, q: &Question) -> ChoiceRec
 /// The same for callers that have tested the arguments once.
 #[inline(always)]
 fn call(ends: &LinkEnds, tables: &Tables, q: &Question) -> ChoiceRecord {
-    use exported::Quantity;
+    use exported::{Quantity, Search};
     // Safe: the arguments meet the `requires`, and the declaration is that of crates/choice/src/lib.rt.
     unsafe {
         exported::choose_start(
-            *ends,
+            Search {
+                ends: *ends,
+                source: q.source,
+                destination: q.destination,
+                bandwidth: Quantity(q.bandwidth),
+                span: Quantity(q.duration),
+            },
             tables.events.as_ptr(),
             tables.events.len(),
             tables.free.as_ptr(),
             tables.free.len(),
-            q.source,
-            q.destination,
-            Quantity(q.bandwidth),
-            Quantity(q.duration),
             Quantity(q.low),
             Quantity(q.latest),
         )

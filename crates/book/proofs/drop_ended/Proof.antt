@@ -4,19 +4,23 @@ use mathlib.Core.Logic.{⊎-elim}
 use Prim.Native.Nat.{_-_, _≤_}
 use native.Mathlib.Omega.{arith}
 use lib.ListN.{length}
+use borrow.Author.Needs.{needs}
 use Rattle.book.specs.Places.{still-standing, only-places}
 use Rattle.book.proofs.Ended.{Kept, kept-none, kept-as, kept-same, kept-more, kept-all}
 use Rattle.book.proofs.drop_ended.Statement.{statement}
 use Rattle.book.proofs.drop_ended.Tie as tie
 
 abbrev Inv-loop : tie.InvT-loop
-Inv-loop book₀ count clock kept₀ place₀ book kept place = (place ≤ count) × ((length book ≡ length book₀) × Kept (clock .0) book₀ book kept place)
+Inv-loop head book₀ count kept₀ place₀ book kept place = (place ≤ count) × ((length book ≡ length book₀) × Kept head book₀ book kept place)
 
 abbrev μ-loop : tie.MeasureT-loop
-μ-loop book₀ count clock kept₀ place₀ book kept place = count - place
+μ-loop head book₀ count kept₀ place₀ book kept place = count - place
+
+cast-count : tie.Need-cast-count Inv-loop μ-loop
+cast-count c = search needs
 
 loop-holds : tie.Need-loop-holds Inv-loop μ-loop
-loop-holds c = (omega arith, (omega arith, kept-none (c .before .args .clock .0) (c .before .args .book .now)))
+loop-holds c = (omega arith, (omega arith, kept-none (c .before .before .args .head) (c .before .before .args .book .now)))
 
 stands-requires : tie.Need-stands-requires Inv-loop μ-loop
 stands-requires c κs = omega arith
@@ -36,10 +40,10 @@ loop-less c = omega arith
 loop-again : tie.Need-loop-again Inv-loop μ-loop
 loop-again c =
     let l = c .before .before .before .before .loop in
-    let a = c .before .before .before .before .before .before .args in
+    let a = c .before .before .before .before .before .before .before .args in
     let s = c .before .stands in
-    let more = kept-more (a .clock .0) (a .book .now) (l .book) (l .kept) (l .place) (l .inv .1 .1) in
-    let same = kept-same (a .clock .0) (a .book .now) (l .book) (l .kept) (l .place) (l .inv .1 .1) in
+    let more = kept-more (a .head) (a .book .now) (l .book) (l .kept) (l .place) (l .inv .1 .1) in
+    let same = kept-same (a .head) (a .book .now) (l .book) (l .kept) (l .place) (l .inv .1 .1) in
     ⊎-elim
     (λ w. (omega arith, (omega (arith, ap length (w .5)), kept-as (w .5 ∙ w .2 .ensures) (w .6) (more (sym (s .ensures) ∙ w .0 .taken) (omega arith)))))
     (λ w. (omega arith, (omega (arith, ap length (w .1)), kept-as (w .1) (w .2) (same (sym (s .ensures) ∙ w .0 .left)))))
@@ -57,10 +61,10 @@ same-length c = omega arith
 returns : tie.Need-returns Inv-loop μ-loop
 returns c =
     let l = c .before .before .before .before .before .loop in
-    let a = c .before .before .before .before .before .before .before .args in
-    let e : l .place ≡ a .count = omega arith in
-    let r = kept-all (a .clock .0) (a .book .now) (l .book) (l .kept) (l .place) (l .inv .1 .1) (omega arith) (omega arith) in
-    (l .inv .1 .1 .count ∙ ap (λ n. length (still-standing (a .clock .0) (a .book .now) n)) e, c .before .before .clear-from .ensures ∙ r ∙ ap (λ n. only-places (still-standing (a .clock .0) (a .book .now) n)) e)
+    let a = c .before .before .before .before .before .before .before .before .args in
+    let e : l .place ≡ a .head .bookings = omega arith in
+    let r = kept-all (a .head) (a .book .now) (l .book) (l .kept) (l .place) (l .inv .1 .1) (omega arith) (omega arith) in
+    (l .inv .1 .1 .count ∙ ap (λ n. length (still-standing (a .head) (a .book .now) n)) e, c .before .before .clear-from .ensures ∙ r ∙ ap (λ n. only-places (still-standing (a .head) (a .book .now) n)) e)
 
 pub drop-ended-spec : {M : Type 1} → statement M
 drop-ended-spec =
@@ -68,6 +72,7 @@ drop-ended-spec =
     (tie.spec
     Inv-loop
     μ-loop
+    cast-count
     loop-holds
     stands-requires
     copy-place-requires

@@ -13,20 +13,20 @@ use Rattle.book.proofs.insert_booking.Tie as tie
 mul-from : tie.Need-mul-from
 mul-from c = search needs
 
-mul-open-place : tie.Need-mul-open-place
-mul-open-place c = search needs
+mul-shift-up : tie.Need-mul-shift-up
+mul-shift-up c = search needs
 
-sub-open-place : tie.Need-sub-open-place
-sub-open-place c = search needs
+sub-shift-up : tie.Need-sub-shift-up
+sub-shift-up c = search needs
 
-part-open-place-start : tie.Need-part-open-place-start
-part-open-place-start c = search needs
+part-shift-up-start : tie.Need-part-shift-up-start
+part-shift-up-start c = search needs
 
-part-open-place-end : tie.Need-part-open-place-end
-part-open-place-end c = search needs
+part-shift-up-end : tie.Need-part-shift-up-end
+part-shift-up-end c = search needs
 
-open-place-requires : tie.Need-open-place-requires
-open-place-requires c κs = search needs
+shift-up-requires : tie.Need-shift-up-requires
+shift-up-requires c κs = search needs
 
 mul-write-place : tie.Need-mul-write-place
 mul-write-place c = search needs
@@ -50,7 +50,7 @@ returns : tie.Need-returns
 unfolding with-booking
 returns c =
     let a = c .before .before .before .before .before .before .before .before .before .args in
-    let opened = c .before .before .before .before .before .before .open-place in
+    let opened = c .before .before .before .before .before .before .shift-up in
     let written = c .before .before .write-place in
     let path : length (a .booking .links) ≡ most-hops = search needs in
     put-over (a .place * place-size) place-size (a .book .now) (opened .last .0) (written .last .0) (figures (a .booking)) (omega arith) (omega arith) (opened .ensures) (written .ensures)
@@ -60,11 +60,11 @@ insert-booking-spec =
     tie.close
     (tie.spec
     mul-from
-    mul-open-place
-    sub-open-place
-    part-open-place-start
-    part-open-place-end
-    open-place-requires
+    mul-shift-up
+    sub-shift-up
+    part-shift-up-start
+    part-shift-up-end
+    shift-up-requires
     mul-write-place
     sub-write-place
     part-write-place-start

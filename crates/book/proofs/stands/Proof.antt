@@ -3,7 +3,7 @@ use mathlib.Core.Path.{ap, ap₂, _∙_}
 use native.Mathlib.Omega.{arith}
 use borrow.Author.Needs.{needs}
 use lib.Dec.{ltb}
-use Rattle.book.specs.Places.{release}
+use Rattle.units.specs.Spans.{span-of, release}
 use Rattle.book.proofs.Reading.{figure-in}
 use Rattle.book.proofs.stands.Statement.{statement}
 use Rattle.book.proofs.stands.Tie as tie
@@ -39,7 +39,7 @@ returns : tie.Need-returns
 returns c =
     let a = c .before .before .before .before .before .args in
     let figure = figure-in (a .book .now) (a .place) in
-    ap (ltb (a .clock .0)) (c .release .ensures ∙ ap₂ release (figure 1 (omega arith)) (figure 2 (omega arith)))
+    ap (ltb (a .head .clock .0)) (c .release .ensures ∙ ap₂ (λ start duration. release start (span-of (a .head) duration)) (figure 1 (omega arith)) (figure 2 (omega arith)))
 
 pub stands-spec : {M : Type 1} → statement M
 stands-spec =

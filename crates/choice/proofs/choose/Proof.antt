@@ -16,7 +16,7 @@ returns : tie.Need-returns
 returns c =
     let s = c .before .before .before .before .before .before in
     let a = s .args in
-    c .refused .ensures ∙ answer-empty (graph (a .ends)) (a .events .now) (a .free .now) (a .bandwidth .0) (a .duration .0) (a .source) (a .destination) (a .low .0) (a .latest .0) (s .pre .clock) (s .pre .times) (s .pre .are-events) (s .pre .not-past) (omega (arith, c .before .if1 .taken))
+    c .refused .ensures ∙ answer-empty (graph (a .search .ends)) (a .events .now) (a .free .now) (a .search .bandwidth .0) (a .search .span .0) (a .search .source) (a .search .destination) (a .low .0) (a .latest .0) (s .pre .clock) (s .pre .times) (s .pre .are-events) (s .pre .not-past) (omega (arith, c .before .if1 .taken))
 
 path-at-requires : tie.Need-path-at-requires
 path-at-requires c κs = askable-at (c .before .before .before .before .before .pre) _ (omega arith) (omega arith)
@@ -29,14 +29,14 @@ returns-2 c =
     let s = c .before .before .before .before .before .before .before .before .before in
     let a = s .args in
     let p = c .before .before .before .path-at in
-    c .started .ensures ∙ answer-low (graph (a .ends)) (a .events .now) (a .free .now) (a .bandwidth .0) (a .duration .0) (a .source) (a .destination) (a .low .0) (a .latest .0) (s .pre .clock) (s .pre .times) (s .pre .are-events) (s .pre .not-past) (omega arith) (p .result) (p .ensures) (omega (arith, c .before .if2 .taken))
+    c .started .ensures ∙ answer-low (graph (a .search .ends)) (a .events .now) (a .free .now) (a .search .bandwidth .0) (a .search .span .0) (a .search .source) (a .search .destination) (a .low .0) (a .latest .0) (s .pre .clock) (s .pre .times) (s .pre .are-events) (s .pre .not-past) (omega arith) (p .result) (p .ensures) (omega (arith, c .before .if2 .taken))
 
 choose-event-requires : tie.Need-choose-event-requires
 choose-event-requires c κs =
     let s = c .before .before .before .before .before .before .before .before in
     let a = s .args in
     let p = c .before .before .path-at in
-    (s .pre, no-route (graph (a .ends)) (carries (kept (a .events .now) (a .free .now)) (a .bandwidth .0) (a .duration .0)) (a .source) (a .destination) (a .low .0) (p .result) (p .ensures) (omega (arith, c .if2 .left)))
+    (s .pre, no-route (graph (a .search .ends)) (carries (kept (a .events .now) (a .free .now)) (a .search .bandwidth .0) (a .search .span .0)) (a .search .source) (a .search .destination) (a .low .0) (p .result) (p .ensures) (omega (arith, c .if2 .left)))
 
 returns-3 : tie.Need-returns-3
 returns-3 c = search needs

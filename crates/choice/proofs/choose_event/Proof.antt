@@ -22,11 +22,11 @@ use Rattle.choice.proofs.refused.Reads as refused-reads
 use Rattle.choice.proofs.started.Reads as started-reads
 
 abbrev Inv-loop : tie.InvT-loop
-Inv-loop ends events free source destination bandwidth duration low latest place₀ place =
-    (place ≤ most-events) × Tried (possible (graph ends) (carries (kept events free) (bandwidth .0) (duration .0)) source destination) events (low .0) (latest .0) place
+Inv-loop search events free low latest place₀ place =
+    (place ≤ most-events) × Tried (possible (graph (search .ends)) (carries (kept events free) (search .bandwidth .0) (search .span .0)) (search .source) (search .destination)) events (low .0) (latest .0) place
 
 abbrev μ-loop : tie.MeasureT-loop
-μ-loop ends events free source destination bandwidth duration low latest place₀ place = most-events - place
+μ-loop search events free low latest place₀ place = most-events - place
 
 -- src/lib.rt:144:5
 loop-holds : tie.Need-loop-holds Inv-loop μ-loop
@@ -51,7 +51,7 @@ returns c =
     let a = s .args in
     let pre = s .pre .0 in
     let l = c .before .before .before .before .before .loop in
-    c .refused .ensures ∙ answer-late (graph (a .ends)) (a .events .now) (a .free .now) (a .bandwidth .0) (a .duration .0) (a .source) (a .destination) (a .low .0) (a .latest .0) (pre .clock) (pre .times) (pre .are-events) (pre .not-past) (l .place) (l .inv .1) (omega (arith, c .before .if1 .taken))
+    c .refused .ensures ∙ answer-late (graph (a .search .ends)) (a .events .now) (a .free .now) (a .search .bandwidth .0) (a .search .span .0) (a .search .source) (a .search .destination) (a .low .0) (a .latest .0) (pre .clock) (pre .times) (pre .are-events) (pre .not-past) (l .place) (l .inv .1) (omega (arith, c .before .if1 .taken))
 
 -- src/lib.rt:151:17
 path-at-requires : tie.Need-path-at-requires Inv-loop μ-loop
@@ -69,7 +69,7 @@ returns-2 c =
     let pre = s .pre .0 in
     let l = c .before .before .before .before .before .before .before .before .before .before .loop in
     let p = c .before .before .before .path-at in
-    c .started .ensures ∙ answer-event (graph (a .ends)) (a .events .now) (a .free .now) (a .bandwidth .0) (a .duration .0) (a .source) (a .destination) (a .low .0) (a .latest .0) (pre .clock) (pre .times) (pre .are-events) (pre .not-past) (l .place) (l .inv .1)
+    c .started .ensures ∙ answer-event (graph (a .search .ends)) (a .events .now) (a .free .now) (a .search .bandwidth .0) (a .search .span .0) (a .search .source) (a .search .destination) (a .low .0) (a .latest .0) (pre .clock) (pre .times) (pre .are-events) (pre .not-past) (l .place) (l .inv .1)
     (omega (arith, c .before .before .before .before .if2 .taken)) (omega (arith, c .before .before .before .before .before .before .if1 .left)) (p .result) (p .ensures) (omega (arith, c .before .if3 .taken))
 
 -- src/lib.rt:156:9
@@ -87,13 +87,13 @@ loop-again c =
     let a = s .args in
     let pre = s .pre .0 in
     let l = c .before .before .before .before .before .before .loop in
-    let carried = carries (kept (a .events .now) (a .free .now)) (a .bandwidth .0) (a .duration .0) in
+    let carried = carries (kept (a .events .now) (a .free .now)) (a .search .bandwidth .0) (a .search .span .0) in
     let event = getD (a .events .now) (l .place) 0 in (
       omega arith,
       rw add-one
-          (tried-next (possible (graph (a .ends)) carried (a .source) (a .destination)) (a .events .now) (a .low .0) (a .latest .0) (l .place) (l .inv .1)
+          (tried-next (possible (graph (a .search .ends)) carried (a .search .source) (a .search .destination)) (a .events .now) (a .low .0) (a .latest .0) (l .place) (l .inv .1)
           (λ after in-time.
-          ⊎-elim (λ tried. no-route (graph (a .ends)) carried (a .source) (a .destination) event (tried .1 .result) (tried .1 .ensures) (omega arith)) (λ skipped. absurd (omega arith))
+          ⊎-elim (λ tried. no-route (graph (a .search .ends)) carried (a .search .source) (a .search .destination) event (tried .1 .result) (tried .1 .ensures) (omega arith)) (λ skipped. absurd (omega arith))
           (c .if2 .came))),
     )
 
@@ -108,7 +108,7 @@ returns-3 c =
     let a = s .args in
     let pre = s .pre .0 in
     let l = c .before .before .loop in
-    c .refused2 .ensures ∙ answer-left (graph (a .ends)) (a .events .now) (a .free .now) (a .bandwidth .0) (a .duration .0) (a .source) (a .destination) (a .low .0) (a .latest .0) (pre .clock) (pre .times) (pre .are-events) (pre .not-past) (l .place) (l .inv .1) (omega arith)
+    c .refused2 .ensures ∙ answer-left (graph (a .search .ends)) (a .events .now) (a .free .now) (a .search .bandwidth .0) (a .search .span .0) (a .search .source) (a .search .destination) (a .low .0) (a .latest .0) (pre .clock) (pre .times) (pre .are-events) (pre .not-past) (l .place) (l .inv .1) (omega arith)
 
 pub choose-event-spec : {M : Type 1} → statement M
 choose-event-spec =

@@ -12,8 +12,8 @@ use Rattle.choice.proofs.Lent.{enough-span-carries}
 use Rattle.choice.proofs.path_at.Statement.{statement}
 use Rattle.choice.proofs.path_at.Tie as tie
 
-end-of-requires : tie.Need-end-of-requires
-end-of-requires c κs = search needs
+end-minute-requires : tie.Need-end-minute-requires
+end-minute-requires c κs = search needs
 
 lasting-links-requires : tie.Need-lasting-links-requires
 lasting-links-requires c κs = search needs
@@ -23,17 +23,17 @@ find-route-requires c κs = search needs
 
 returns : tie.Need-returns
 returns c =
-    let from = c .before .before .before .before .before in
+    let from = c .before .before .before .before .before .before in
     let a = from .args in
-    let g = graph (a .ends) in
+    let g = graph (a .search .ends) in
     let u = usable (record { has = c .before .lasting-links .result }) in
-    let carried = carries (kept (a .events .now) (a .free .now)) (a .bandwidth .0) (a .duration .0) (a .start .0) in
+    let carried = carries (kept (a .events .now) (a .free .now)) (a .search .bandwidth .0) (a .search .span .0) (a .start .0) in
     let pre = from .pre in
-    let spanned = ap (λ end. enough-span (a .events .now) (a .start .0) end) (c .before .before .end-of .ensures) in
+    let spanned = ap (λ end. enough-span (a .events .now) (a .start .0) end) (c .before .before .end-minute .ensures) in
     let same : (l : ℕ) → l < g .count → u l ≡ carried l =
-    λ l h. c .before .lasting-links .ensures l (omega (arith, pre .in-range .few)) ∙ ap (λ look. look l (a .bandwidth .0) (a .free .now)) spanned
-    ∙ enough-span-carries (pre .clock) (pre .times) (a .events .now) (a .free .now) (pre .are-events) l (a .bandwidth .0) (a .start .0) (a .duration .0) (pre .not-past) (omega arith) in
-    c .find-route .ensures ∙ ap answer (route-agree g g u carried (record { count = refl; from = λ l h. refl; to = λ l h. refl; usable = same }) (a .destination) (a .source))
+    λ l h. c .before .lasting-links .ensures l (omega (arith, pre .in-range .few)) ∙ ap (λ look. look l (a .search .bandwidth .0) (a .free .now)) spanned
+    ∙ enough-span-carries (pre .clock) (pre .times) (a .events .now) (a .free .now) (pre .are-events) l (a .search .bandwidth .0) (a .start .0) (a .search .span .0) (pre .not-past) (omega arith) in
+    c .find-route .ensures ∙ ap answer (route-agree g g u carried (record { count = refl; from = λ l h. refl; to = λ l h. refl; usable = same }) (a .search .destination) (a .search .source))
 
 pub path-at-spec : {M : Type 1} → statement M
-path-at-spec = tie.close (tie.spec end-of-requires lasting-links-requires find-route-requires returns)
+path-at-spec = tie.close (tie.spec end-minute-requires lasting-links-requires find-route-requires returns)

@@ -1,12 +1,12 @@
--- `desk::gcr_book` meets its contract: the slice `links` is lent to `link_table`, the borrow of `head` is opened, the record is copied out, `reserve` is called, the record that it hands back is stored, and the borrow is closed at it.
--- The other parameters go to `reserve` as they are, and what its contract says of them at exit is what this function says (`Wrap.antt`). All that the proof knows of a callee is that it meets its contract.
+-- `desk::gcr_book` meets its contract: the slice `links` is lent to `link_table`, the borrow of `head` is opened, the record is copied out, `make_booking` is called, the record that it hands back is stored, and the borrow is closed at it.
+-- The other parameters go to `make_booking` as they are, and what its contract says of them at exit is what this function says (`Wrap.antt`). All that the proof knows of a callee is that it meets its contract.
 -- Printed by tools/walkgen.py: change the source or the generator, not this file.
 use Rattle.desk.proofs.Walk.{ !, AllGo, Are, Args, Atoms, Calls, FmC, Fun, Given, Heap, Is, Ises, Item, Lfts, List, Loops, Meets, Memory, RefT, Routine, SProp, Shares, Spells, Stays, Tables, Triple, URA, Val, Vals, Walks, WpFn, WpFn-mono, [], _$_, _∙_, _∵_, _∷_, _≡_, _⊛_, addr, agg, alive, alloc0, alloc1, and-then, assigns, atExit, by, cited, drop, ent, enter, entered, feqI, fjoin, fjoin3, flat, fld, flft, fmOf, free0, from, fsplit, fsplit3, givenOf, goes-ref, hop, id⊢, init, join, keep, land, load, look, look-in, look-raw, move, mut-slice-tells, mut-tells, named, no-more, nothing, of-opd, onEntry, owned, owns, params1, pass0, pass1, peeks, plain, ptr-vals, qed, raw, refl, returns, sep, shows, shr-slice-tells, slice-vals, split, stay-ref, stop, store-raw, sub, subst, tables, tablesOf, tripleOf, typesAt, u32, uint-lawful, uint-tells, uint-vals, use1, use2, valss, w32, walk-meets, walkOf, walked, whole, ‵}
 use Rattle.desk.proofs.Calls.{Of, calls-for, Token, Own, lends}
 use Rattle.desk.proofs.Wrap.{after, all-passed, all-passed-go, opened, closed, calls-on, landed, gone, leaves, restated}
 use denote.Struct.Laws as LL
 use Rattle.units.specs.LinkTables.{table-of}
-use Rattle.desk.proofs.Laws.{book-after-same, events-after-same, free-after-same, granted-answer-same, head-after-same}
+use Rattle.desk.proofs.Laws.{granted-answer-same, tables-after-same}
 use Rattle.units.specs.declared.Head.{Head}
 use Rattle.units.specs.declared.Link.{Link}
 use Rattle.units.specs.declared.LinkTable.{LinkTable}
@@ -21,10 +21,10 @@ use Rattle.units.proofs.LinkTable as the-LinkTable
 use Rattle.units.proofs.LinkTable.Laws as the-LinkTable′
 use Rattle.units.proofs.Request as the-Request
 use Rattle.units.proofs.Request.Laws as the-Request′
-use Rattle.desk_core.proofs.reserve as core
-use Rattle.desk_core.proofs.reserve.Symbol as core-def
-use Rattle.desk_core.proofs.reserve.Symbol.{name as #core}
-use Rattle.desk_core.proofs.reserve.Met as core-thm
+use Rattle.desk_core.proofs.make_booking as core
+use Rattle.desk_core.proofs.make_booking.Symbol as core-def
+use Rattle.desk_core.proofs.make_booking.Symbol.{name as #core}
+use Rattle.desk_core.proofs.make_booking.Met as core-thm
 use Rattle.desk.proofs.link_table as table
 use Rattle.desk.proofs.link_table.Symbol as table-def
 use Rattle.desk.proofs.link_table.Symbol.{name as #table}
@@ -128,7 +128,7 @@ module _ {M : Type 1} (𝓤 : URA M) (H : Heap 𝓤) (A : Atoms 𝓤) (W : Given
         -- [the tokens; what is had of the parameters; what the outcome owns; what the core ensures]
         owned ! R.the-row (Is R.the-row) (LL.makes R.the-type R′.the-plain 𝓤 H A) (r .answer) _ (fields .1 .0) $ keep ! (1 ∷ 2 ∷ 0 ∷ 4 ∷ []) $
         -- the core's words are taken to this function's
-        move ! (3 ∷ []) $ use1 W (raw (f.clauses 𝓤 H A mem run κs a .ensures tt (r .answer) (atExit f.ended κs a (r .head, ws .1)))) (restated 𝓤 (λ e. (e .0 ∙ granted-answer-same _ _ _, e .1 ∙ head-after-same _ _ _, e .2 ∙ events-after-same _ _ _, e .3 ∙ free-after-same _ _ _, e .4 ∙ book-after-same _ _ _))) $ move ! (1 ∷ 2 ∷ 3 ∷ []) $
+        move ! (3 ∷ []) $ use1 W (raw (f.clauses 𝓤 H A mem run κs a .ensures tt (r .answer) (atExit f.ended κs a (r .head, ws .1)))) (restated 𝓤 (λ e. (e .0 ∙ granted-answer-same _ _ _, e .1 ∙ tables-after-same _ _ _))) $ move ! (1 ∷ 2 ∷ 3 ∷ []) $
         by ! (leaves 𝓤 H A W f.ended stayed (f.clauses 𝓤 H A mem run) ((κs, qs, tt, a, vals), tt) _ (r .answer) (r .head, ws .1) (tt, (tt, (tt, (tt, (tt, (tt, (tt, tt)))))))))))))))))))))))))))))
 
 module _ {M : Type 1} (𝓤 : URA M) (H : Heap 𝓤) (A : Atoms 𝓤) (W : Given 𝓤 H A) (mem : Memory → SProp 𝓤) (run : Routine → Fun 𝓤) where
@@ -150,5 +150,5 @@ gcr-book-spec 𝓤 H 𝓜 𝓖 𝓡 =
     entered 𝓤 H (tripleOf 𝓤 H (𝓖 .A) f.signature (f.spec 𝓤 H (𝓖 .A) (𝓜 .mem) (𝓡 .run)))
     (tables 𝓤 H 𝓜 𝓡 code.env .C) (tables 𝓤 H 𝓜 𝓡 code.env .Λ) #f code.function (code.unfolded 𝓤 H 𝓜 𝓡)
     (meets 𝓤 H (𝓖 .A) (givenOf 𝓤 H 𝓜 𝓖) (𝓜 .mem) (𝓡 .run) (tablesOf 𝓤 H 𝓜 (tables 𝓤 H 𝓜 𝓡 code.env))
-    (cited 𝓤 H (Of 𝓤 H (𝓖 .A) core.ended (core.clauses 𝓤 H (𝓖 .A) (𝓜 .mem) (𝓡 .run))) 𝓜 𝓡 code.env #core core-def.routine code.calls-desk-core·reserve (core-thm.met 𝓤 H 𝓜 𝓖 𝓡))
+    (cited 𝓤 H (Of 𝓤 H (𝓖 .A) core.ended (core.clauses 𝓤 H (𝓖 .A) (𝓜 .mem) (𝓡 .run))) 𝓜 𝓡 code.env #core core-def.routine code.calls-desk-core·make-booking (core-thm.met 𝓤 H 𝓜 𝓖 𝓡))
     (cited 𝓤 H (Of 𝓤 H (𝓖 .A) table.ended (table.clauses 𝓤 H (𝓖 .A) (𝓜 .mem) (𝓡 .run))) 𝓜 𝓡 code.env #table table-def.routine code.calls-desk·link-table (table-thm.met 𝓤 H 𝓜 𝓖 𝓡)))

@@ -2,7 +2,7 @@
 -- Printed by tools/walkgen.py: change the source or the generator, not this file.
 use Rattle.desk.proofs.Walk.{ !, Atoms, Calls, Fun, GName, Given, Heap, Is, Lft, List, Loops, Meets, Memory, RefT, Room, Routine, SProp, Share, ShrSlice, Stays, Tables, URA, Val, Vals, Walks, WpFn, WpFn-mono, [], _$_, _*_, _<_, _^_, _∵_, _∷_, _⊛_, alloc0, alloc1, arith, assigns, bin, by, done, elem-back, elem-out, ends-at, ent, enter, entered, fat, fjoin, fld, flft, forget, frame, free0, free1, from, fsplit, ftrue, fullShare, getD, givenOf, goes-none, goes-none-slice, hop, init, join, keep, length, lit, load, look, look-in, look-raw, looks-slice, move, named, needs, nothing, now, of-opd, onEntry, owned, owns, params1, pass0, pass1, place-is, plain, qed, refl, returns, rewrite, says, shows, shr-slice-tells, shuts-slice, slice-vals, sliceVal, split, stay-none, stay-none-slice, stop, sub, suffices, sym, tables, tablesOf, tripleOf, tyPtr, uint-tells, uint-vals, usize, vint, vptr, w64, walk-meets, walkOf, walked, whole, yes, ‵, ℕ, ⋆}
 use denote.Struct.Laws as LL
-use Rattle.desk_core.specs.Plain.{no-link}
+use Rattle.rules.specs.Plain.{no-link}
 use Rattle.units.specs.declared.Link.{Link}
 use Rattle.units.proofs.Link as T
 use Rattle.units.proofs.Link.Laws as T′

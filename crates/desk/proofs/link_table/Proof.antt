@@ -7,7 +7,7 @@ use Rattle.desk.proofs.Walk.{ !, Atoms, Below, Bool, Calls, Env, FmC, F
 use Rattle.desk.proofs.Calls.{Of, calls-for, Token, Own, lends-at}
 use denote.Struct.Laws as LL
 use Rattle.units.specs.LinkTables.{table-of, at-most-64, empty-table, with-link}
-use Rattle.desk_core.specs.Plain.{no-link}
+use Rattle.rules.specs.Plain.{no-link}
 use Rattle.units.specs.Limits.{most-links}
 use Rattle.desk.proofs.Laws.{Part, part-start, part-next, part-all, limit-top, limit-self}
 use Rattle.units.specs.declared.Link.{Link}

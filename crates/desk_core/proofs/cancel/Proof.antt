@@ -6,13 +6,13 @@ use borrow.Author.Needs.{needs}
 use borrow.Author.Tests.{not-true, not-false}
 use denote.Ref.{now}
 use Prim.Native.Nat.{ℕ}
-use Rattle.desk_core.specs.Calls.{Ask, ask, done}
-use Rattle.desk_core.specs.Tables.{held}
+use Rattle.rules.specs.Calls.{Ask, ask, done}
+use Rattle.rules.specs.Tables.{held, lent}
 use Rattle.units.specs.LinkTables.{links-of}
-use Rattle.desk_core.specs.Lent.{lent}
-use Rattle.desk_core.proofs.Exits.{refused-with, stopped, accepted, handed}
-use Rattle.desk_core.proofs.TableChecks.{fine, tables-refused, places-fit}
-use Rattle.desk_core.proofs.OwnChecks.{cancel-4, cancel-9, cancel-0, stands-found}
+use Rattle.rules.proofs.Exits.{refused-with, stopped, accepted}
+use Rattle.desk_core.proofs.Handed.{handed}
+use Rattle.refusals.proofs.TableChecks.{fine, tables-refused, places-fit}
+use Rattle.refusals.proofs.OwnChecks.{cancel-4, cancel-9, cancel-0, stands-found}
 use Rattle.desk_core.proofs.cancel.Statement.{statement}
 use Rattle.desk_core.proofs.cancel.Tie as tie
 
@@ -82,7 +82,7 @@ returns-3 c = let a = c .before .before .before .before .before .before .before 
     let l = links-of (a .links) in
     let t = lent (a .head) (now (a .events)) (now (a .free)) (now (a .book)) in
     let f = fine l t true (sym (c .before .before .before .before .before .before .before .before .table-refusal .ensures) ∙ c .before .before .before .before .before .before .before .if1 .left) in
-    let none = stands-found (a .head .clock .0) (now (a .book)) (a .head .bookings) (a .number) (sym (c .before .before .find .ensures) ∙ c .enum-told .given .1) in
+    let none = stands-found (a .head) (now (a .book)) (a .number) (sym (c .before .before .find .ensures) ∙ c .enum-told .given .1) in
     handed l t (ask (Ask.cancel (a .number))) (refused-with 9 t) (stopped l t (Ask.cancel (a .number)) (f .is-sized) refl (f .is-sound) 9 (cancel-9 l (held t) (a .number) (sym (c .before .before .before .before .before .before .in-range .ensures) ∙ not-false _ (c .before .before .before .before .before .if2 .left)) none) (λ e. let z : _≡_ {A = ℕ} 9 0 = e in omega arith)) refl refl
 
 release-place-requires : tie.Need-release-place-requires
@@ -105,7 +105,7 @@ returns-4 c = let a = c .before .before .before .before .before .before .before 
     let l = links-of (a .links) in
     let t = lent (a .head) (now (a .events)) (now (a .free)) (now (a .book)) in
     let f = fine l t true (sym (c .before .before .before .before .before .before .before .before .before .before .before .before .before .before .before .before .before .before .before .table-refusal .ensures) ∙ c .before .before .before .before .before .before .before .before .before .before .before .before .before .before .before .before .before .before .if1 .left) in
-    let some = stands-found (a .head .clock .0) (now (a .book)) (a .head .bookings) (a .number) (sym (c .before .before .before .before .before .before .before .before .before .before .before .before .before .find .ensures) ∙ c .before .before .before .before .before .before .before .before .before .before .before .place .given .1) in
+    let some = stands-found (a .head) (now (a .book)) (a .number) (sym (c .before .before .before .before .before .before .before .before .before .before .before .before .before .find .ensures) ∙ c .before .before .before .before .before .before .before .before .before .before .before .place .given .1) in
     handed l t (ask (Ask.cancel (a .number))) _ (accepted l t (Ask.cancel (a .number)) (f .is-sized) refl (f .is-sound) (cancel-0 l (held t) (a .number) (sym (c .before .before .before .before .before .before .before .before .before .before .before .before .before .before .before .before .before .in-range .ensures) ∙ not-false _ (c .before .before .before .before .before .before .before .before .before .before .before .before .before .before .before .before .if2 .left)) some) done refl) refl (c .before .before .before .before .before .before .release-place .ensures)
 
 pub cancel-spec : {M : Type 1} → statement M

@@ -8,13 +8,13 @@ use denote.Ref.{now}
 use Rattle.units.specs.Limits.{list-size}
 use Rattle.units.specs.LinkTables.{links-of}
 use Rattle.listing.specs.Ranges.{list-table}
-use Rattle.desk_core.specs.Calls.{Ask, ask, lists, first-refusal, own-checks, every}
-use Rattle.desk_core.specs.Tables.{held}
-use Rattle.desk_core.specs.Lent.{lent}
-use Rattle.desk_core.proofs.Tests.{request-right}
-use Rattle.desk_core.proofs.Exits.{refused-with, stopped, all-passed, accepted, handed-listing}
-use Rattle.desk_core.proofs.TableChecks.{lent-refusal, fine, list-fine, tables-refused}
-use Rattle.desk_core.proofs.OwnChecks.{listed-as-offer}
+use Rattle.rules.specs.Calls.{Ask, ask, lists, first-refusal, own-checks, every}
+use Rattle.rules.specs.Tables.{held, lent}
+use Rattle.rules.proofs.Tests.{request-right}
+use Rattle.rules.proofs.Exits.{refused-with, stopped, all-passed, accepted}
+use Rattle.desk_core.proofs.Handed.{handed-listing}
+use Rattle.refusals.proofs.TableChecks.{lent-refusal, fine, list-fine, tables-refused}
+use Rattle.refusals.proofs.OwnChecks.{listed-as-offer}
 use Rattle.desk_core.proofs.BestStart.{best-asks, same-ranges}
 use Rattle.desk_core.proofs.list_starts.Statement.{statement}
 use Rattle.desk_core.proofs.list_starts.Tie as tie

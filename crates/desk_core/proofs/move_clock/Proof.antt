@@ -5,13 +5,13 @@ use native.Mathlib.Omega.{arith}
 use borrow.Author.Needs.{needs}
 use denote.Ref.{now}
 use Prim.Native.Nat.{ℕ}
-use Rattle.desk_core.specs.Calls.{Ask, ask, done}
-use Rattle.desk_core.specs.Tables.{held}
+use Rattle.rules.specs.Calls.{Ask, ask, done}
+use Rattle.rules.specs.Tables.{held, lent}
 use Rattle.units.specs.LinkTables.{links-of}
-use Rattle.desk_core.specs.Lent.{lent}
-use Rattle.desk_core.proofs.Exits.{refused-with, stopped, accepted, handed}
-use Rattle.desk_core.proofs.TableChecks.{fine, tables-refused}
-use Rattle.desk_core.proofs.OwnChecks.{move-4, move-10, move-0}
+use Rattle.rules.proofs.Exits.{refused-with, stopped, accepted}
+use Rattle.desk_core.proofs.Handed.{handed}
+use Rattle.refusals.proofs.TableChecks.{fine, tables-refused}
+use Rattle.refusals.proofs.OwnChecks.{move-4, move-10, move-0}
 use Rattle.desk_core.proofs.move_clock.Statement.{statement}
 use Rattle.desk_core.proofs.move_clock.Tie as tie
 

@@ -4,11 +4,12 @@ use borrow.Author.Needs.{needs}
 use borrow.Author.Tests.{not-true, not-false}
 use denote.Ref.{now}
 use lib.ListN.{length}
-use Rattle.desk_core.specs.Calls.{set-up}
+use Rattle.rules.specs.Calls.{set-up}
 use Rattle.units.specs.LinkTables.{links-of}
-use Rattle.desk_core.specs.Lent.{lent}
-use Rattle.desk_core.proofs.Exits.{refused-with, unsized, bad-links, set-up-done, handed}
-use Rattle.desk_core.proofs.TableChecks.{sizes-same, few-links}
+use Rattle.rules.specs.Tables.{lent}
+use Rattle.rules.proofs.Exits.{refused-with, unsized, bad-links, set-up-done}
+use Rattle.desk_core.proofs.Handed.{handed}
+use Rattle.refusals.proofs.TableChecks.{sizes-same, few-links}
 use Rattle.desk_core.proofs.set_up.Statement.{statement}
 use Rattle.desk_core.proofs.set_up.Tie as tie
 

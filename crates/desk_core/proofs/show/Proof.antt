@@ -7,15 +7,15 @@ use borrow.Author.Tests.{not-true, not-false}
 use denote.Ref.{now}
 use Prim.Native.Nat.{ℕ, _<_}
 use lib.ListN.{length}
-use Rattle.desk_core.specs.Plain.{free}
-use Rattle.desk_core.specs.Calls.{Ask, ask, shows}
-use Rattle.desk_core.specs.Tables.{held}
+use Rattle.rules.specs.Plain.{free}
+use Rattle.rules.specs.Calls.{Ask, ask, shows}
+use Rattle.rules.specs.Tables.{held, lent}
 use Rattle.units.specs.LinkTables.{links-of}
-use Rattle.desk_core.specs.Lent.{lent}
-use Rattle.desk_core.proofs.Exits.{refused-with, stopped, accepted, handed-shown}
-use Rattle.desk_core.proofs.TableChecks.{fine, tables-refused, range-low}
-use Rattle.desk_core.proofs.OwnChecks.{show-4-link, show-4-minute, show-0}
-use Rattle.desk_core.proofs.LinkColumns.{links-count}
+use Rattle.rules.proofs.Exits.{refused-with, stopped, accepted}
+use Rattle.desk_core.proofs.Handed.{handed-shown}
+use Rattle.refusals.proofs.TableChecks.{fine, tables-refused, range-low}
+use Rattle.refusals.proofs.OwnChecks.{show-4-link, show-4-minute, show-0}
+use Rattle.rules.proofs.LinkColumns.{links-count}
 use Rattle.desk_core.proofs.BestStart.{figure-asks, figure-is}
 use Rattle.desk_core.proofs.show.Statement.{statement}
 use Rattle.desk_core.proofs.show.Tie as tie

@@ -27,13 +27,13 @@ returns : tie.Need-returns
 returns c =
     let a = c .before .before .before .before .before .before .args in
     let r = c .before .before .before .choose in
-    add-one (a .latest .0) ∙ refused-is (choose (graph (a .ends)) (carries (kept (a .events .now) (a .free .now)) (a .bandwidth .0) (a .duration .0)) (a .source) (a .destination) (a .low .0) (a .latest .0)) (r .result) (r .ensures) (suc (a .latest .0)) _ (c .before .enum-told .given .1)
+    add-one (a .latest .0) ∙ refused-is (choose (graph (a .search .ends)) (carries (kept (a .events .now) (a .free .now)) (a .search .bandwidth .0) (a .search .span .0)) (a .search .source) (a .search .destination) (a .low .0) (a .latest .0)) (r .result) (r .ensures) (suc (a .latest .0)) _ (c .before .enum-told .given .1)
 
 returns-2 : tie.Need-returns-2
 returns-2 c =
     let a = c .before .before .before .before .before .before .args in
     let r = c .before .before .before .choose in
-    start-is (choose (graph (a .ends)) (carries (kept (a .events .now) (a .free .now)) (a .bandwidth .0) (a .duration .0)) (a .source) (a .destination) (a .low .0) (a .latest .0)) (r .result) (r .ensures) (suc (a .latest .0)) _ (c .before .choice .given .1)
+    start-is (choose (graph (a .search .ends)) (carries (kept (a .events .now) (a .free .now)) (a .search .bandwidth .0) (a .search .span .0)) (a .search .source) (a .search .destination) (a .low .0) (a .latest .0)) (r .result) (r .ensures) (suc (a .latest .0)) _ (c .before .choice .given .1)
 
 pub first-start-spec : {M : Type 1} → statement M
 first-start-spec = tie.close (tie.spec choose-requires enum-known-choice enum-told add-result returns returns-2)

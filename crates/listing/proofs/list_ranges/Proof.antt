@@ -10,7 +10,7 @@ use Rattle.free_table.specs.Figures.{kept}
 use Rattle.path_search.specs.Answer.{graph}
 use Rattle.choice.specs.Choice.{possible}
 use Rattle.choice.specs.Answer.{carries, Askable}
-use Rattle.path_search.specs.declared.LinkEnds.{LinkEnds}
+use Rattle.choice.specs.declared.Search.{Search}
 use Rattle.timeline.specs.Events.{events}
 use Rattle.choice.proofs.Lent.{kept-back}
 use Rattle.choice.proofs.Exits.{askable-part}
@@ -25,15 +25,15 @@ use Rattle.listing.proofs.run_end.Reads as run-end-reads
 use Rattle.units.proofs.clear_from.Reads as clear-from-reads
 
 abbrev Inv-loop : tie.InvT-loop
-Inv-loop ends events free source destination bandwidth duration latest list₀ count₀ start₀ list count start =
-    Listed (possible (graph ends) (carries (kept events free) (bandwidth .0) (duration .0)) source destination) (latest .0) start₀ list count start
+Inv-loop search events free latest list₀ count₀ start₀ list count start =
+    Listed (possible (graph (search .ends)) (carries (kept events free) (search .bandwidth .0) (search .span .0)) (search .source) (search .destination)) (latest .0) start₀ list count start
 
 abbrev μ-loop : tie.MeasureT-loop
-μ-loop ends events free source destination bandwidth duration latest list₀ count₀ start₀ list count start = suc (latest .0) - start
+μ-loop search events free latest list₀ count₀ start₀ list count start = suc (latest .0) - start
 
 -- src/lib.rt:186:9
 -- the list has a place for each event
-events-few : {ends : LinkEnds} {es t : List ℕ} {duration low latest : ℕ} (a : Askable ends es t duration low latest) → length (events (a .clock) (a .times)) ≤ most-ranges
+events-few : {s : Search} {es t : List ℕ} {low latest : ℕ} (a : Askable s es t low latest) → length (events (a .clock) (a .times)) ≤ most-ranges
 events-few a = omega (arith, a .sized .events-sized, simp (length-append) at (ap length (a .are-events)))
 
 first-start-requires : tie.Need-first-start-requires Inv-loop μ-loop
@@ -44,7 +44,7 @@ loop-holds : tie.Need-loop-holds Inv-loop μ-loop
 loop-holds c =
     let s = c .before .before .before .before in
     let a = s .args in
-    listed-first (graph (a .ends)) (carries (kept (a .events .now) (a .free .now)) (a .bandwidth .0) (a .duration .0)) (a .source) (a .destination) (a .low .0) (a .latest .0) (c .first-start .result) (c .first-start .ensures) (a .list .now) (s .pre .1)
+    listed-first (graph (a .search .ends)) (carries (kept (a .events .now) (a .free .now)) (a .search .bandwidth .0) (a .search .span .0)) (a .search .source) (a .search .destination) (a .low .0) (a .latest .0) (c .first-start .result) (c .first-start .ensures) (a .list .now) (s .pre .1)
 
 -- src/lib.rt:198:13
 run-end-requires : tie.Need-run-end-requires Inv-loop μ-loop
@@ -55,7 +55,7 @@ run-end-requires c κs =
     let l = c .before .before .loop in
     let first = c .before .before .before .first-start in
     let inside : l .start ≤ a .latest .0 = omega (arith, c .if1 .taken) in
-    (askable-part p (l .start) (a .latest .0) (start-after (graph (a .ends)) (carries (kept (a .events .now) (a .free .now)) (a .bandwidth .0) (a .duration .0)) (a .source) (a .destination) (a .low .0) (a .latest .0) (first .result) (first .ensures) (l .list) (l .count) (l .start) (l .inv) inside) (le-refl _), (inside, start-passes (graph (a .ends)) (carries (kept (a .events .now) (a .free .now)) (a .bandwidth .0) (a .duration .0)) (a .source) (a .destination) (a .low .0) (a .latest .0) (first .result) (first .ensures) (l .list) (l .count) (l .start) (l .inv) inside))
+    (askable-part p (l .start) (a .latest .0) (start-after (graph (a .search .ends)) (carries (kept (a .events .now) (a .free .now)) (a .search .bandwidth .0) (a .search .span .0)) (a .search .source) (a .search .destination) (a .low .0) (a .latest .0) (first .result) (first .ensures) (l .list) (l .count) (l .start) (l .inv) inside) (le-refl _), (inside, start-passes (graph (a .search .ends)) (carries (kept (a .events .now) (a .free .now)) (a .search .bandwidth .0) (a .search .span .0)) (a .search .source) (a .search .destination) (a .low .0) (a .latest .0) (first .result) (first .ensures) (l .list) (l .count) (l .start) (l .inv) inside))
 
 -- src/lib.rt:209:21
 -- where a range is found there is a place for it
@@ -67,7 +67,7 @@ room c =
     let l = c .before .before .before .loop in
     let first = c .before .before .before .before .first-start in
     let r = c .run-end in
-    listed-few (graph (a .ends)) (carries (kept (a .events .now) (a .free .now)) (a .bandwidth .0) (a .duration .0)) (a .source) (a .destination) (a .low .0) (a .latest .0) (first .result) (first .ensures) (l .list) (l .count) (l .start) (l .inv) (omega (arith, c .before .if1 .taken)) (r .result) (r .ensures) (p .clock) (p .times) (kept-back (p .clock) (p .times) (a .events .now) (a .free .now) (p .are-events) (a .bandwidth .0) (a .duration .0)) (p .not-past) (events-few p)
+    listed-few (graph (a .search .ends)) (carries (kept (a .events .now) (a .free .now)) (a .search .bandwidth .0) (a .search .span .0)) (a .search .source) (a .search .destination) (a .low .0) (a .latest .0) (first .result) (first .ensures) (l .list) (l .count) (l .start) (l .inv) (omega (arith, c .before .if1 .taken)) (r .result) (r .ensures) (p .clock) (p .times) (kept-back (p .clock) (p .times) (a .events .now) (a .free .now) (p .are-events) (a .search .bandwidth .0) (a .search .span .0)) (p .not-past) (events-few p)
 
 cast-place : tie.Need-cast-place Inv-loop μ-loop
 cast-place c = omega (arith, room c)
@@ -114,7 +114,7 @@ next-start-requires c κs =
     let first = c .before .before .before .before .first-start in
     let r = c .run-end in
     let inside : l .start ≤ a .latest .0 = omega (arith, c .before .if1 .taken) in
-    (askable-part p (r .result) (a .latest .0) (let early = start-after (graph (a .ends)) (carries (kept (a .events .now) (a .free .now)) (a .bandwidth .0) (a .duration .0)) (a .source) (a .destination) (a .low .0) (a .latest .0) (first .result) (first .ensures) (l .list) (l .count) (l .start) (l .inv) inside in omega (arith, r .ensures .after)) (le-refl _), λ within. r .ensures .stops (omega arith))
+    (askable-part p (r .result) (a .latest .0) (let early = start-after (graph (a .search .ends)) (carries (kept (a .events .now) (a .free .now)) (a .search .bandwidth .0) (a .search .span .0)) (a .search .source) (a .search .destination) (a .low .0) (a .latest .0) (first .result) (first .ensures) (l .list) (l .count) (l .start) (l .inv) inside in omega (arith, r .ensures .after)) (le-refl _), λ within. r .ensures .stops (omega arith))
 
 -- src/lib.rt:197:5
 loop-less : tie.Need-loop-less Inv-loop μ-loop
@@ -125,7 +125,7 @@ loop-less c =
     let l = c .before .before .before .before .loop in
     let first = c .before .before .before .before .before .first-start in
     let r = c .before .run-end in
-    let n = next-start (graph (a .ends)) (carries (kept (a .events .now) (a .free .now)) (a .bandwidth .0) (a .duration .0)) (a .source) (a .destination) (r .result) (a .latest .0) (c .next-start .result) (r .ensures .not-past) (c .next-start .ensures) in
+    let n = next-start (graph (a .search .ends)) (carries (kept (a .events .now) (a .free .now)) (a .search .bandwidth .0) (a .search .span .0)) (a .search .source) (a .search .destination) (r .result) (a .latest .0) (c .next-start .result) (r .ensures .not-past) (c .next-start .ensures) in
     omega (arith, r .ensures .after, n .not-before, c .before .before .if1 .taken)
 
 -- src/lib.rt:197:5
@@ -137,8 +137,8 @@ loop-again c =
     let l = c .before .before .before .before .loop in
     let first = c .before .before .before .before .before .first-start in
     let r = c .before .run-end in
-    let n = next-start (graph (a .ends)) (carries (kept (a .events .now) (a .free .now)) (a .bandwidth .0) (a .duration .0)) (a .source) (a .destination) (r .result) (a .latest .0) (c .next-start .result) (r .ensures .not-past) (c .next-start .ensures) in
-    listed-next (graph (a .ends)) (carries (kept (a .events .now) (a .free .now)) (a .bandwidth .0) (a .duration .0)) (a .source) (a .destination) (a .low .0) (a .latest .0) (first .result) (first .ensures) (l .list) (l .count) (l .start) (l .inv) (omega (arith, c .before .before .if1 .taken)) (r .result) (r .ensures) (c .next-start .result) n (room (c .before))
+    let n = next-start (graph (a .search .ends)) (carries (kept (a .events .now) (a .free .now)) (a .search .bandwidth .0) (a .search .span .0)) (a .search .source) (a .search .destination) (r .result) (a .latest .0) (c .next-start .result) (r .ensures .not-past) (c .next-start .ensures) in
+    listed-next (graph (a .search .ends)) (carries (kept (a .events .now) (a .free .now)) (a .search .bandwidth .0) (a .search .span .0)) (a .search .source) (a .search .destination) (a .low .0) (a .latest .0) (first .result) (first .ensures) (l .list) (l .count) (l .start) (l .inv) (omega (arith, c .before .before .if1 .taken)) (r .result) (r .ensures) (c .next-start .result) n (room (c .before))
 
 -- src/lib.rt:225:22
 cast-clear-from : tie.Need-cast-clear-from Inv-loop μ-loop
@@ -165,7 +165,7 @@ returns c =
     let l = c .before .before .before .before .before .before .loop in
     let first = c .before .before .before .before .before .before .before .first-start in
     let outside : a .latest .0 < l .start = omega (arith, c .before .before .before .before .if1 .left) in
-    (all-counted (graph (a .ends)) (carries (kept (a .events .now) (a .free .now)) (a .bandwidth .0) (a .duration .0)) (a .source) (a .destination) (a .low .0) (a .latest .0) (first .result) (first .ensures) (l .list) (l .count) (l .start) (l .inv) outside, c .before .before .clear-from .ensures ∙ all-written (graph (a .ends)) (carries (kept (a .events .now) (a .free .now)) (a .bandwidth .0) (a .duration .0)) (a .source) (a .destination) (a .low .0) (a .latest .0) (first .result) (first .ensures) (l .list) (l .count) (l .start) (l .inv) outside)
+    (all-counted (graph (a .search .ends)) (carries (kept (a .events .now) (a .free .now)) (a .search .bandwidth .0) (a .search .span .0)) (a .search .source) (a .search .destination) (a .low .0) (a .latest .0) (first .result) (first .ensures) (l .list) (l .count) (l .start) (l .inv) outside, c .before .before .clear-from .ensures ∙ all-written (graph (a .search .ends)) (carries (kept (a .events .now) (a .free .now)) (a .search .bandwidth .0) (a .search .span .0)) (a .search .source) (a .search .destination) (a .low .0) (a .latest .0) (first .result) (first .ensures) (l .list) (l .count) (l .start) (l .inv) outside)
 
 pub list-ranges-spec : {M : Type 1} → statement M
 list-ranges-spec =

@@ -21,7 +21,7 @@ returns : tie.Need-returns
 returns c =
     let a = c .before .before .before .before .before .before .args in
     add-one (a .latest .0)
-    ∙ sym (ap (start-or (suc (a .latest .0))) (choose-none (graph (a .ends)) (carries (kept (a .events .now) (a .free .now)) (a .bandwidth .0) (a .duration .0)) (a .source) (a .destination) (a .end .0) (a .latest .0) (λ m early late. absurd (omega (arith, c .before .if1 .taken)))))
+    ∙ sym (ap (start-or (suc (a .latest .0))) (choose-none (graph (a .search .ends)) (carries (kept (a .events .now) (a .free .now)) (a .search .bandwidth .0) (a .search .span .0)) (a .search .source) (a .search .destination) (a .end .0) (a .latest .0) (λ m early late. absurd (omega (arith, c .before .if1 .taken)))))
 
 choose-event-requires : tie.Need-choose-event-requires
 choose-event-requires c κs = let s = c .before .before .before .before .before in (s .pre .0, s .pre .1 (omega (arith, c .if1 .left)))
@@ -39,13 +39,13 @@ returns-2 : tie.Need-returns-2
 returns-2 c =
     let a = c .before .before .before .before .before .before .before .before .before .args in
     let r = c .before .before .before .choose-event in
-    add-one (a .latest .0) ∙ refused-is (choose (graph (a .ends)) (carries (kept (a .events .now) (a .free .now)) (a .bandwidth .0) (a .duration .0)) (a .source) (a .destination) (a .end .0) (a .latest .0)) (r .result) (r .ensures) (suc (a .latest .0)) _ (c .before .enum-told .given .1)
+    add-one (a .latest .0) ∙ refused-is (choose (graph (a .search .ends)) (carries (kept (a .events .now) (a .free .now)) (a .search .bandwidth .0) (a .search .span .0)) (a .search .source) (a .search .destination) (a .end .0) (a .latest .0)) (r .result) (r .ensures) (suc (a .latest .0)) _ (c .before .enum-told .given .1)
 
 returns-3 : tie.Need-returns-3
 returns-3 c =
     let a = c .before .before .before .before .before .before .before .before .before .args in
     let r = c .before .before .before .choose-event in
-    start-is (choose (graph (a .ends)) (carries (kept (a .events .now) (a .free .now)) (a .bandwidth .0) (a .duration .0)) (a .source) (a .destination) (a .end .0) (a .latest .0)) (r .result) (r .ensures) (suc (a .latest .0)) _ (c .before .choice .given .1)
+    start-is (choose (graph (a .search .ends)) (carries (kept (a .events .now) (a .free .now)) (a .search .bandwidth .0) (a .search .span .0)) (a .search .source) (a .search .destination) (a .end .0) (a .latest .0)) (r .result) (r .ensures) (suc (a .latest .0)) _ (c .before .choice .given .1)
 
 pub next-start-spec : {M : Type 1} → statement M
 next-start-spec = tie.close (tie.spec add-result returns choose-event-requires enum-known-choice enum-told add-result-2 returns-2 returns-3)

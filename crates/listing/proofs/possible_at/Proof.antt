@@ -14,7 +14,7 @@ returns : tie.Need-returns
 returns c =
     let a = c .before .before .before .before .args in
     let p = c .before .path-at in
-    possible-counts (graph (a .ends)) (carries (kept (a .events .now) (a .free .now)) (a .bandwidth .0) (a .duration .0)) (a .source) (a .destination) (a .start .0) (p .result) (p .ensures)
+    possible-counts (graph (a .search .ends)) (carries (kept (a .events .now) (a .free .now)) (a .search .bandwidth .0) (a .search .span .0)) (a .search .source) (a .search .destination) (a .start .0) (p .result) (p .ensures)
 
 pub possible-at-spec : {M : Type 1} → statement M
 possible-at-spec = tie.close (tie.spec path-at-requires returns)

@@ -2,8 +2,8 @@
 use mathlib.Core.Path.{_≡_, refl, sym, _∙_, ap, subst}
 use denote.Ref.{now}
 use Rattle.units.specs.LinkTables.{links-of}
-use Rattle.desk_core.specs.Lent.{lent}
-use Rattle.record.specs.declared.Order.the-variants.{Book, Cancel, Clock, Offer}
+use Rattle.rules.specs.Tables.{lent}
+use Rattle.layout.specs.declared.Order.the-variants.{Book, Cancel, Clock, Offer}
 use Rattle.orders.specs.Ordered.{call-of}
 use Rattle.orders.proofs.Answering.{number-is, refused, done}
 use borrow.Author.Needs.{needs}
@@ -30,7 +30,7 @@ returns c = let a = c .before .before .before .before .before .before .before .b
     let l = links-of (a .links) in
     let t = lent (a .head) (now (a .events)) (now (a .free)) (now (a .book)) in
     let r = c .before .before .before .before .before .before .before .before .before .move-clock .ensures in
-    refused l t (Clock (a .minute)) (number-is l t (call-of (Clock (a .minute))) (r .0)) (c .before .if1 .taken) (c .no-path .ensures) (r .1, r .2, r .3, r .4)
+    refused l t (Clock (a .minute)) (number-is l t (call-of (Clock (a .minute))) (r .0)) (c .before .if1 .taken) (c .no-path .ensures) (r .1)
 
 no-path-requires-2 : tie.Need-no-path-requires-2
 no-path-requires-2 c κs = search needs
@@ -49,7 +49,7 @@ returns-2 c = let a = c .before .before .before .before .before .before .before 
     let l = links-of (a .links) in
     let t = lent (a .head) (now (a .events)) (now (a .free)) (now (a .book)) in
     let r = c .before .before .before .before .before .before .before .before .before .move-clock .ensures in
-    done l t (Clock (a .minute)) (number-is l t (call-of (Clock (a .minute))) (r .0)) (c .before .if1 .left) refl (c .no-path2 .ensures) (r .1, r .2, r .3, r .4)
+    done l t (Clock (a .minute)) (number-is l t (call-of (Clock (a .minute))) (r .0)) (c .before .if1 .left) refl (c .no-path2 .ensures) (r .1)
 
 pub answer-clock-spec : {M : Type 1} → statement M
 answer-clock-spec =

@@ -2,9 +2,9 @@
 use mathlib.Core.Path.{_≡_, refl, sym, _∙_, ap, subst}
 use denote.Ref.{now}
 use Rattle.units.specs.LinkTables.{links-of}
-use Rattle.desk_core.specs.Lent.{lent}
-use Rattle.record.specs.declared.Order.the-variants.{Book, Cancel, Clock, Offer}
-use Rattle.record.specs.Values.{request-of}
+use Rattle.rules.specs.Tables.{lent}
+use Rattle.layout.specs.declared.Order.the-variants.{Book, Cancel, Clock, Offer}
+use Rattle.layout.specs.Values.{request-of}
 use Rattle.report.specs.declared.Report.the-variants as reports
 use Rattle.orders.specs.Ordered.{call-of}
 use Rattle.orders.proofs.Answering.{carried, offer-keeps, refused, done}

@@ -2,7 +2,7 @@
 use mathlib.Core.Path.{_≡_, refl, sym, _∙_, ap, subst}
 use denote.Ref.{now}
 use Rattle.units.specs.LinkTables.{links-of}
-use Rattle.desk_core.specs.Lent.{lent}
+use Rattle.rules.specs.Tables.{lent}
 use Rattle.orders.specs.Ordered.{ordered, by-reading}
 use Rattle.orders.proofs.Answering.{unread}
 use borrow.Author.Needs.{needs}

@@ -2,7 +2,7 @@
 use mathlib.Core.Path.{_≡_, refl, sym, _∙_, ap, subst}
 use denote.Ref.{now}
 use Rattle.units.specs.LinkTables.{links-of}
-use Rattle.desk_core.specs.Lent.{lent}
+use Rattle.rules.specs.Tables.{lent}
 use Rattle.orders.specs.Ordered.{answered}
 use borrow.Author.Needs.{needs}
 use Rattle.orders.proofs.answer_read.Statement.{statement}

@@ -3,7 +3,7 @@ use mathlib.Core.Path.{ap, subst}
 use native.Mathlib.Omega.{arith}
 use denote.Ref.{now}
 use Rattle.units.specs.LinkTables.{links-of}
-use Rattle.desk_core.specs.Lent.{lent}
+use Rattle.rules.specs.Tables.{lent}
 use Rattle.report.specs.Written.{Wrote}
 use Rattle.orders.specs.Ordered.{Ordered, line-of}
 use Rattle.orders.proofs.Short.{ordered-short}

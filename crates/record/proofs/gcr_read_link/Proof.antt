@@ -1,6 +1,6 @@
 -- `gcr_read_link` meets its contract: each arm is the definition's case.
 use mathlib.Core.Path.{sym, _∙_, ap}
-use Rattle.record.specs.Values.{link-values}
+use Rattle.layout.specs.Values.{link-values}
 use borrow.Author.Needs.{needs}
 use Rattle.record.proofs.gcr_read_link.Statement.{statement}
 use Rattle.record.proofs.gcr_read_link.Tie as tie

@@ -1,6 +1,6 @@
 -- `gcr_read_order` meets its contract: each arm is the definition's case.
 use mathlib.Core.Path.{sym, _∙_, ap}
-use Rattle.record.specs.Values.{order-values}
+use Rattle.layout.specs.Values.{order-values}
 use borrow.Author.Needs.{needs}
 use Rattle.record.proofs.gcr_read_order.Statement.{statement}
 use Rattle.record.proofs.gcr_read_order.Tie as tie

@@ -1,6 +1,6 @@
 -- `values_of` meets its contract: each arm is the definition's case.
 use mathlib.Core.Path.{sym, _∙_, ap}
-use Rattle.record.specs.Values.{values-of}
+use Rattle.layout.specs.Values.{values-of}
 use borrow.Author.Needs.{needs}
 use Rattle.record.proofs.values_of.Statement.{statement}
 use Rattle.record.proofs.values_of.Tie as tie

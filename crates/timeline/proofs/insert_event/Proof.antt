@@ -6,7 +6,7 @@ use native.Mathlib.Omega.{arith}
 use lib.ListN.{getD, take}
 use Rattle.units.specs.Limits.{most-links, most-events}
 use Rattle.timeline.specs.Events.{row-at}
-use Rattle.units.specs.Lists.{put-in}
+use Rattle.units.specs.Lists.{put-piece}
 use Rattle.units.proofs.Pieces.{length-rest, part-back}
 use Rattle.timeline.proofs.Insertion.{row-fits, with-event-there, with-row-there, event-put, row-put}
 use borrow.Author.Needs.{needs}
@@ -84,9 +84,9 @@ returns-2 c =
     let a = c .before .before .before .before .before .before .before .before .before .before .before .before .before .before .before .args in
     let fits = row-found (c .before .before .before .before .before .before .before .before .before .before .before) in
     let h : getD (a .events .now) (f .result) 0 < a .minute .0 = c .before .before .before .before .before .before .before .before .if1 .left in (
-      part-back (f .result) (a .events .now) (c .before .before .put-event .last .0) (put-in 1 (a .minute .0 ∷ [])) (omega arith) (c .before .before .put-event .ensures)
+      part-back (f .result) (a .events .now) (c .before .before .put-event .last .0) (put-piece 1 (a .minute .0 ∷ [])) (omega arith) (c .before .before .put-event .ensures)
           ∙ event-put (a .minute .0) (a .events .now) (f .result) (f .ensures) h,
-      part-back (f .result * most-links) (a .rows .now) (c .before .before .before .before .before .before .repeat-row .last .0) (λ (l : List ℕ). put-in most-links (take most-links l) l) (omega arith) (c .before .before .before .before .before .before .repeat-row .ensures)
+      part-back (f .result * most-links) (a .rows .now) (c .before .before .before .before .before .before .repeat-row .last .0) (λ (l : List ℕ). put-piece most-links (take most-links l) l) (omega arith) (c .before .before .before .before .before .before .repeat-row .ensures)
           ∙ row-put (a .minute .0) (a .events .now) (f .result) (f .ensures) h most-links (a .rows .now),
     )
 

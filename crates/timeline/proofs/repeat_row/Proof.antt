@@ -1,75 +1,20 @@
--- `repeat_row` meets its contract. The loop goes down: each place from i on holds what stood a row before it.
-use mathlib.Core.Path.{_≡_, refl, ap, _∙_}
-use Prim.Native.Nat.{_-_, _≤_}
+-- `repeat_row` meets its contract: moving up by a row leaves the first one twice.
+use mathlib.Core.Path.{_∙_}
 use native.Mathlib.Omega.{arith}
-use lib.ListN.{length, getD, set, length-set}
+use borrow.Author.Needs.{needs}
 use Rattle.units.specs.Limits.{most-links}
-use Rattle.units.proofs.Pieces.{moved, moved-none, moved-more, moved-all}
+use Rattle.units.proofs.Pieces.{moved-all}
 use Rattle.timeline.proofs.repeat_row.Statement.{statement}
 use Rattle.timeline.proofs.repeat_row.Tie as tie
 
-abbrev Inv-loop : tie.InvT-loop
-Inv-loop part₀ i₀ part i = (most-links ≤ i) × ((i ≤ length part₀) × ((length part ≡ length part₀) × (part ≡ moved most-links i part₀)))
+shift-up-requires : tie.Need-shift-up-requires
+shift-up-requires c κs = search needs
 
-abbrev μ-loop : tie.MeasureT-loop
-μ-loop part₀ i₀ part i = i
+same-length : tie.Need-same-length
+same-length c = search needs
 
-loop-holds : tie.Need-loop-holds Inv-loop μ-loop
-loop-holds c = (omega arith, (omega arith, (omega arith, moved-none most-links (length (c .args .part .now)) (c .args .part .now) refl)))
-
-sub-i : tie.Need-sub-i Inv-loop μ-loop
-sub-i c = omega arith
-
-sub-part : tie.Need-sub-part Inv-loop μ-loop
-sub-part c = omega arith
-
-mul-part : tie.Need-mul-part Inv-loop μ-loop
-mul-part c = omega arith
-
-slice-read-part : tie.Need-slice-read-part Inv-loop μ-loop
-slice-read-part c = omega arith
-
-mul-part-2 : tie.Need-mul-part-2 Inv-loop μ-loop
-mul-part-2 c = omega arith
-
-slice-write-part : tie.Need-slice-write-part Inv-loop μ-loop
-slice-write-part c = omega arith
-
-loop-less : tie.Need-loop-less Inv-loop μ-loop
-loop-less c = omega arith
-
-loop-again : tie.Need-loop-again Inv-loop μ-loop
-loop-again c =
-    let l = c .before .before .loop in
-    let a = c .before .before .before .args in (
-      omega arith,
-      (omega arith, (simp length-set (omega arith), ap (λ t. set t (l .i - 1) (getD t (l .i - 1 - most-links) 0)) (l .inv .1 .1 .1) ∙ moved-more most-links (l .i) (a .part .now) (omega arith) (omega arith))),
-    )
-
-same-length : tie.Need-same-length Inv-loop μ-loop
-same-length c = omega arith
-
-returns : tie.Need-returns Inv-loop μ-loop
-returns c =
-    let l = c .before .loop in
-    let a = c .before .before .args in
-    let e : l .i ≡ most-links = omega arith in
-    l .inv .1 .1 .1 ∙ ap (λ i. moved most-links i (a .part .now)) e ∙ moved-all most-links (a .part .now) (omega arith)
+returns : tie.Need-returns
+returns c = let a = c .before .before .before .before .before .args in c .before .before .shift-up .ensures ∙ moved-all most-links (a .part .now) (omega arith)
 
 pub repeat-row-spec : {M : Type 1} → statement M
-repeat-row-spec =
-    tie.close
-    (tie.spec
-    Inv-loop
-    μ-loop
-    loop-holds
-    sub-i
-    sub-part
-    mul-part
-    slice-read-part
-    mul-part-2
-    slice-write-part
-    loop-less
-    loop-again
-    same-length
-    returns)
+repeat-row-spec = tie.close (tie.spec shift-up-requires same-length returns)

@@ -1,0 +1,4 @@
+pub mod Demands
+pub mod Listing
+pub mod Cancelling
+pub mod Examples

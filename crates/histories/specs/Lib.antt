@@ -1,0 +1,4 @@
+pub mod Checks
+pub mod Kinds
+pub mod Histories
+pub mod Demands

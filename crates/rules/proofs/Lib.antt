@@ -1,0 +1,11 @@
+-- The laws of the rules, on which the demands and the code rest.
+pub mod Uses
+pub mod Book
+pub mod Checks
+pub mod Tests
+pub mod Choices
+pub mod Obeys
+pub mod Step
+pub mod Exits
+pub mod LinkColumns
+pub mod Numbers

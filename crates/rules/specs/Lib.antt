@@ -1,0 +1,7 @@
+pub mod Plain
+pub mod Calls
+pub mod Tables
+pub mod Desk
+pub mod Sound
+pub mod Choosing
+pub mod Numbers

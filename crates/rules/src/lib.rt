@@ -1,0 +1,1 @@
+// No code: document 01 as definitions that compute (specs), and their laws (proofs).
