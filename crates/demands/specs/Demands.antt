@@ -6,6 +6,7 @@ use mathlib.Core.List.{List, List·Memᴰ}
 use Prim.Native.Nat.{ℕ, _≤_}
 use Rattle.units.specs.declared.Link.{Link}
 use Rattle.units.specs.declared.Request.{Request}
+use Rattle.units.specs.Refusals as refusals
 use Rattle.histories.specs.Kinds as kinds
 use Rattle.histories.specs.Demands as demands
 use Rattle.rules.specs.Plain.{Plain, low}
@@ -43,7 +44,7 @@ AsksStart (ask a) = asks-start a
 
 -- Demand 1 in its other words: a call that passes is refused only with 8, and only if it asks for a start.
 abbrev pub NotOtherwise : Desk → Type 0
-NotOtherwise desk = (links : List Link) (t : Tables) (c : Call) (k : ℕ) → Passes links t c → desk links t c .answer ≡ refuse k → AsksStart c × (k ≡ 8)
+NotOtherwise desk = (links : List Link) (t : Tables) (c : Call) (k : ℕ) → Passes links t c → desk links t c .answer ≡ refuse k → AsksStart c × (k ≡ refusals.no-start)
 
 -- And whatever its number, a refusal leaves every table as it came.
 abbrev pub RefusalKeeps : Desk → Type 0

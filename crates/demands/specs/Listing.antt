@@ -7,6 +7,7 @@ use lib.ListN.{length}
 use Rattle.units.specs.declared.Link.{Link}
 use Rattle.units.specs.declared.Request.{Request}
 use Rattle.units.specs.Limits.{most-ranges}
+use Rattle.units.specs.Refusals as refusals
 use Rattle.units.specs.Lists.{All}
 use Rattle.choice.specs.Choice.{Grant}
 use Rattle.listing.specs.Ranges.{Range}
@@ -41,7 +42,7 @@ pub record EveryStart (desk : Desk) : Type 0 where
       → (rs : List Range) × (desk links t (ask (list n r)) .answer ≡ lists rs) × RightListing links (held t) r rs
   -- it is empty if and only if the offer is refused 8
   pub empty-iff : (links : List Link) (t : Tables) (n : ℕ) (r : Request) → Passes links t (ask (list n r))
-      → (desk links t (ask (list n r)) .answer ≡ lists []) ↔ (desk links t (ask (offer r)) .answer ≡ refuse 8)
+      → (desk links t (ask (list n r)) .answer ≡ lists []) ↔ (desk links t (ask (offer r)) .answer ≡ refuse refusals.no-start)
   -- its first minute is the offer's start
   pub first-is : (links : List Link) (t : Tables) (n : ℕ) (r : Request) → Passes links t (ask (list n r)) → (x : Range) (rs : List Range)
       → desk links t (ask (list n r)) .answer ≡ lists (x ∷ rs) → (g : Grant) → desk links t (ask (offer r)) .answer ≡ starts g → x .first ≡ g .start

@@ -9,6 +9,7 @@ use lib.Dec.{leb}
 use Rattle.units.specs.declared.Link.{Link}
 use Rattle.units.specs.declared.Request.{Request}
 use Rattle.units.specs.Lists.{All}
+use Rattle.units.specs.Refusals as refusals
 use Rattle.units.proofs.Tests.{Tells, at-most}
 use Rattle.units.proofs.Search.{allFrom-all, all-allFrom}
 use Rattle.units.proofs.Parts.{all-map}
@@ -129,7 +130,7 @@ module _ (links : List Link) (p : Plain) (r : Request) where
         good-grant g (granted-iff (graph links) (carries links p r) (r .from) (r .to) (low p r) (r .latest .0) (q .ends-differ) (nodes-below links right) (q .from-right) g .0 e)
 
     -- what holds of every good grant and of refusal 8 holds of the best answer
-    pub best-elim : (P : Answer → Type 0) → ((g : Grant) → GoodGrant g → P (starts g)) → P (refuse 8) → P (best links p r)
+    pub best-elim : (P : Answer → Type 0) → ((g : Grant) → GoodGrant g → P (starts g)) → P (refuse refusals.no-start) → P (best links p r)
     unfolding best
     best-elim P f h = by choice refl
       where

@@ -12,6 +12,7 @@ use Rattle.units.specs.declared.Link.{Link}
 use Rattle.units.specs.declared.Request.{Request}
 use Rattle.units.specs.Limits.{most-links, most-bookings, last-minute, last-number, list-size}
 use Rattle.units.specs.Lists.{Within, member, sum, All}
+use Rattle.units.specs.Refusals as refusals
 use Rattle.units.proofs.Tests.{member-tells, absent, in-range}
 use Rattle.units.proofs.Permuted.{length-permuted, member-permuted, select-permuted}
 use Rattle.units.proofs.Parts.{select-part, length-part, map-part, distinct-part, all-map, all-at, all-selected}
@@ -130,28 +131,28 @@ module _ (links : List Link) (p : Plain) {bs cs : List Booking} (q : List·Perm�
   unfolding kinds.answer
   answer-permuted (book n r) = λ i.
       checked refuse
-      (check 4 (number-ok n && request-ok r)
-      ∷ check 5 (leb (low p r) (r .latest .0))
-      ∷ check 6 (not (stands-permuted n i))
-      ∷ check 7 (ltb (length-permuted q i) most-bookings)
+      (check refusals.bad-field (number-ok n && request-ok r)
+      ∷ check refusals.too-late (leb (low p r) (r .latest .0))
+      ∷ check refusals.number-stands (not (stands-permuted n i))
+      ∷ check refusals.book-full (ltb (length-permuted q i) most-bookings)
       ∷ [])
       (best-permuted r i)
   answer-permuted (offer r) = ap (checked refuse (own-checks links (with-book p bs) (offer r))) (best-permuted r)
   answer-permuted (list n r) = ap (λ rs. checked refuse (own-checks links (with-book p bs) (list n r)) (lists rs)) (every-permuted r)
-  answer-permuted (cancel n) = ap (λ x. checked refuse (check 4 (number-ok n) ∷ check 9 x ∷ []) done) (stands-permuted n)
+  answer-permuted (cancel n) = ap (λ x. checked refuse (check refusals.bad-field (number-ok n) ∷ check refusals.not-standing x ∷ []) done) (stands-permuted n)
   answer-permuted (move-clock m) = refl
   answer-permuted (show l m) = ap (λ x. checked refuse (own-checks links (with-book p bs) (show l m)) (shows (capacity links l - x))) (taken-permuted p q l m)
 
 -- ---- one call
 
 -- a call that is lent a list checks its size on sound tables as well
-list-checked : (links : List Link) (p : Plain) (a : Ask) → checked refuse (check 13 (list-fits a) ∷ []) (answer links p a) ≡ answer links p a
+list-checked : (links : List Link) (p : Plain) (a : Ask) → checked refuse (check refusals.bad-list (list-fits a) ∷ []) (answer links p a) ≡ answer links p a
 unfolding kinds.answer checked
 list-checked links p (book n r) = refl
 list-checked links p (offer r) = refl
 list-checked links p (list n r) = by (eqb n list-size)
   where
-    by : (fits : Bool) → checked refuse (check 13 fits ∷ []) (checked refuse (check 13 fits ∷ request-checks p r) (lists (every links p r))) ≡ checked refuse (check 13 fits ∷ request-checks p r) (lists (every links p r))
+    by : (fits : Bool) → checked refuse (check refusals.bad-list fits ∷ []) (checked refuse (check refusals.bad-list fits ∷ request-checks p r) (lists (every links p r))) ≡ checked refuse (check refusals.bad-list fits ∷ request-checks p r) (lists (every links p r))
     by true = refl
     by false = refl
 list-checked links p (cancel n) = refl

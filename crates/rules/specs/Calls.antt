@@ -9,6 +9,7 @@ use lib.ListN.{length}
 use Rattle.units.specs.declared.Link.{Link}
 use Rattle.units.specs.declared.Request.{Request}
 use Rattle.units.specs.Limits.{last-node, most-hops, most-bookings, last-number, most-bandwidth, longest, last-minute, last-shown, list-size}
+use Rattle.units.specs.Refusals as refusals
 use Rattle.units.specs.Lists.{within, padded}
 use Rattle.choice.specs.Choice.{Grant, Choice, granted, no-start, choose}
 use Rattle.listing.specs.Ranges.{Range, ranges}
@@ -86,7 +87,7 @@ request-ok r =
 
 -- what an offer and a listing are checked for on sound tables
 abbrev pub request-checks : Plain → Request → List Check
-request-checks p r = check 4 (request-ok r) ∷ check 5 (leb (low p r) (r .latest .0)) ∷ []
+request-checks p r = check refusals.bad-field (request-ok r) ∷ check refusals.too-late (leb (low p r) (r .latest .0)) ∷ []
 
 -- whether a list that the call is lent has document 02's length; only a listing is lent one
 abbrev pub list-fits : Ask → Bool
@@ -101,20 +102,20 @@ list-fits (show l m) = true
 -- checked before the tables' soundness, and is among them so that the plain book alone gives the answer
 abbrev pub own-checks : List Link → Plain → Ask → List Check
 own-checks links p (book n r) =
-    check 4 (number-ok n && request-ok r)
-    ∷ check 5 (leb (low p r) (r .latest .0))
-    ∷ check 6 (not (stands n (p .bookings)))
-    ∷ check 7 (ltb (length (p .bookings)) most-bookings)
+    check refusals.bad-field (number-ok n && request-ok r)
+    ∷ check refusals.too-late (leb (low p r) (r .latest .0))
+    ∷ check refusals.number-stands (not (stands n (p .bookings)))
+    ∷ check refusals.book-full (ltb (length (p .bookings)) most-bookings)
     ∷ []
 own-checks links p (offer r) = request-checks p r
-own-checks links p (list n r) = check 13 (list-fits (list n r)) ∷ request-checks p r
-own-checks links p (cancel n) = check 4 (number-ok n) ∷ check 9 (stands n (p .bookings)) ∷ []
-own-checks links p (move-clock m) = check 4 (leb m last-minute) ∷ check 10 (leb (p .clock) m) ∷ []
-own-checks links p (show l m) = check 4 (ltb l (length links) && within (p .clock) last-shown m) ∷ []
+own-checks links p (list n r) = check refusals.bad-list (list-fits (list n r)) ∷ request-checks p r
+own-checks links p (cancel n) = check refusals.bad-field (number-ok n) ∷ check refusals.not-standing (stands n (p .bookings)) ∷ []
+own-checks links p (move-clock m) = check refusals.bad-field (leb m last-minute) ∷ check refusals.clock-back (leb (p .clock) m) ∷ []
+own-checks links p (show l m) = check refusals.bad-field (ltb l (length links) && within (p .clock) last-shown m) ∷ []
 
 abbrev pub chosen : Choice → Answer
 chosen (granted g) = starts g
-chosen no-start = refuse 8
+chosen no-start = refuse refusals.no-start
 
 -- the earliest start of the request's window, with its path
 unfoldable pub best : List Link → Plain → Request → Answer
@@ -135,7 +136,7 @@ result links p (show l m) = shows (free links p l m)
 
 -- a start, or 'no start'
 abbrev pub StartOr8 : Answer → Type 0
-StartOr8 a = ((g : Grant) × (a ≡ starts g)) ⊎ (a ≡ refuse 8)
+StartOr8 a = ((g : Grant) × (a ≡ starts g)) ⊎ (a ≡ refuse refusals.no-start)
 
 -- the form in which a call that passes its checks is answered; only one that asks for a start may be refused then, with 8
 abbrev pub InForm : Ask → Answer → Type 0

@@ -7,6 +7,7 @@ use Prim.Native.Nat.{ℕ, _+_, _≤_, _<_}
 use lib.ListN.{length}
 use Rattle.units.specs.declared.Link.{Link}
 use Rattle.units.specs.declared.Request.{Request}
+use Rattle.units.specs.Refusals as refusals
 use Rattle.units.specs.Lists.{All, Lower}
 use Rattle.path_search.specs.Paths.{Leads}
 use Rattle.choice.specs.Choice.{Grant}
@@ -37,5 +38,5 @@ module _ (links : List Link) (p : Plain) (r : Request) where
 
   pub record RightChoice (a : Answer) : Type 0 where
     pub start-iff : (g : Grant) → (a ≡ starts g) ↔ IsChoice g
-    pub no-start-iff : (a ≡ refuse 8) ↔ NoStart
-    pub either : ((g : Grant) × (a ≡ starts g)) ⊎ (a ≡ refuse 8)
+    pub no-start-iff : (a ≡ refuse refusals.no-start) ↔ NoStart
+    pub either : ((g : Grant) × (a ≡ starts g)) ⊎ (a ≡ refuse refusals.no-start)

@@ -8,7 +8,7 @@ use Rattle.units.specs.declared.Link.{Link}
 use Rattle.units.specs.declared.Request.{Request}
 use Rattle.units.specs.Lists.{if-so, sum}
 use Rattle.units.specs.Search.{allFrom}
-use Rattle.units.specs.Spans.{release}
+use Rattle.units.specs.Spans.{held-for, release}
 use Rattle.path_search.specs.Paths.{Graph}
 use Rattle.choice.specs.Choice.{Grant}
 use Rattle.plain_book.specs.Stretches as stretches
@@ -41,7 +41,7 @@ with-book p bs = record { clock = p .clock; bookings = bs }
 
 -- the minutes for which links are held
 abbrev pub span : Plain → Terms → ℕ
-span p t = t .duration
+span p t = held-for (t .duration)
 
 -- the minute from which on b holds nothing and no longer stands
 abbrev pub until : Plain → Booking → ℕ

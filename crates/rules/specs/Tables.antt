@@ -8,6 +8,7 @@ use lib.ListN.{length, take}
 use Rattle.units.specs.declared.Link.{Link}
 use Rattle.units.specs.declared.Head.{Head}
 use Rattle.units.specs.Limits.{most-links, most-hops, most-bookings, most-bandwidth, longest, last-minute, most-events, place-size}
+use Rattle.units.specs.Refusals as refusals
 use Rattle.units.specs.Lists.{within, count-from, padded, equal, rising, all}
 use Rattle.units.specs.Search.{allFrom}
 use Rattle.timeline.specs.Events.{events}
@@ -114,11 +115,11 @@ sound links t = sound-with links t (held t)
 
 -- the checks of what is lent to a call on a desk that is set up, by whether a lent list fits
 abbrev pub lent-checks : List Link → Tables → Bool → List Check
-lent-checks links t fits = check 1 (sized links t) ∷ check 13 fits ∷ check 3 (sound links t) ∷ []
+lent-checks links t fits = check refusals.bad-size (sized links t) ∷ check refusals.bad-list fits ∷ check refusals.unsound (sound links t) ∷ []
 
 -- the checks of the tables, which come first
 abbrev pub table-checks : List Link → Tables → Call → List Check
-table-checks links t (set-up-with s) = check 1 (sized links t) ∷ check 2 (links-ok links) ∷ []
+table-checks links t (set-up-with s) = check refusals.bad-size (sized links t) ∷ check refusals.bad-link (links-ok links) ∷ []
 table-checks links t (ask a) = lent-checks links t (list-fits a)
 
 -- the tables as they are lent

@@ -2,9 +2,13 @@
 use Prim.Native.Nat.{ℕ, _+_}
 use Rattle.units.specs.declared.Head.{Head}
 
--- the minutes for which a booking of that duration holds its links, on a desk of that head
+-- the minutes for which a booking of that duration holds its links
+abbrev pub held-for : ℕ → ℕ
+held-for duration = duration
+
+-- the same, on a desk of that head
 abbrev pub span-of : Head → ℕ → ℕ
-span-of head duration = duration
+span-of head duration = held-for duration
 
 -- more than any span: two figures of a table together
 abbrev pub most-span : ℕ
