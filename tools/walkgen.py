@@ -196,8 +196,11 @@ def equations(f):
     """(left side, right side) of each equation of the one `ensures`, or None."""
     m = re.findall(r"ensures \{ λ (\w+)\. ⌜ (.*?) ⌝ \}", f.contract)
     if len(m) != 1: return None
-    out = []
-    parts = split_top(m[0][1], " × ")
+    out, clause = [], m[0][1]
+    # `(let t = VALUE in ..)`: the value stands where it is named
+    named = re.match(r"\(let (\w+) = (.*?) in\s+(.*)\)$", clause)
+    if named: clause = re.sub(r"(?<![\w.])" + named.group(1) + r"(?![\w.])", lambda _: f"({named.group(2)})", named.group(3))
+    parts = split_top(clause, " × ")
     for c in parts:
         if len(parts) > 1 and c.startswith("(") and c.endswith(")"): c = c[1:-1]
         e = split_top(c, " ≡ ")

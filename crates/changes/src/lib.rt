@@ -1,7 +1,9 @@
 // What an accepted call writes: tables that are sound become those of the plain book after the call. Each function answers
 // the head after it. The calls ask first; nothing here refuses.
 use book::Booking;
+use book::Standing;
 use book::drop_ended;
+use book::find;
 use book::insert_booking;
 use book::remove_place;
 use book::slot;
@@ -22,7 +24,7 @@ ghost use Rattle.units.specs.Limits.{last-minute};
 ghost use Rattle.book.specs.declared.Standing.the-variants.{At};
 ghost use Rattle.book.specs.Places.{find};
 ghost use Rattle.rules.specs.Plain.{empty};
-ghost use Rattle.rules.specs.Calls.{take-out, move-to, put-in};
+ghost use Rattle.rules.specs.Calls.{stands, take-out, move-to, put-in};
 ghost use Rattle.rules.specs.Tables.{held, sizes-ok, tables, lent, Fine};
 ghost use lib.ListN.{length};
 ghost use Rattle.units.specs.LinkTables.{links-of};
@@ -44,7 +46,7 @@ pub fn reset(links: LinkTable, events: &mut [u32], free: &mut [u32], book: &mut 
 }
 
 // Takes out the booking of a number, which was found at the place.
-pub fn release_place(
+fn release_place(
     head: Head,
     links: LinkTable,
     events: &mut [u32],
@@ -61,6 +63,24 @@ pub fn release_place(
     remove_place(book, place);
     rebuild(after, links, events, free, book);
     after
+}
+
+// Takes out the booking of a number, which stands.
+pub fn take_out(
+    head: Head,
+    links: LinkTable,
+    events: &mut [u32],
+    free: &mut [u32],
+    book: &mut [u32],
+    number: u32,
+) -> Head
+    requires { ⌜ Fine (links-of links) (lent head (now events) (now free) (now book)) ⌝ ∗ ⌜ stands number (held (lent head (now events) (now free) (now book)) .bookings) ≡ true ⌝ }
+    ensures { λ r. ⌜ (lent r (now (events .exit)) (now (free .exit)) (now (book .exit))) ≡ tables (links-of links) (take-out number (held (lent head (now (events .entry)) (now (free .entry)) (now (book .entry))))) ⌝ }
+{
+    let Standing::At(place) = find(book, head.bookings as usize, number) else {
+        return head;
+    };
+    release_place(head, links, events, free, book, number, place)
 }
 
 // Moves the clock on and drops what has ended.

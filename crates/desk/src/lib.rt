@@ -62,8 +62,9 @@ pub extern "C" fn gcr_set_up(
     free: &mut [u32],
     book: &mut [u32],
 ) -> u32
-    ensures { λ r. ⌜ (r ≡ refusal-answer (now (links .entry)) (lent (now (head .entry)) (now (events .entry)) (now (free .entry)) (now (book .entry))) set-up)
-        × (lent (now (head .exit)) (now (events .exit)) (now (free .exit)) (now (book .exit)) ≡ tables-after (now (links .entry)) (lent (now (head .entry)) (now (events .entry)) (now (free .entry)) (now (book .entry))) set-up) ⌝ }
+    ensures { λ r. ⌜ (let t = lent (now (head .entry)) (now (events .entry)) (now (free .entry)) (now (book .entry)) in
+        (r ≡ refusal-answer (now (links .entry)) t set-up)
+        × (lent (now (head .exit)) (now (events .exit)) (now (free .exit)) (now (book .exit)) ≡ tables-after (now (links .entry)) t set-up)) ⌝ }
 {
     let table = link_table(links);
     let out = set_up(*head, table, events, free, book);
@@ -82,8 +83,9 @@ pub extern "C" fn gcr_book(
     number: u32,
     request: Request,
 ) -> ChoiceRecord
-    ensures { λ r. ⌜ (r ≡ granted-answer (now (links .entry)) (lent (now (head .entry)) (now (events .entry)) (now (free .entry)) (now (book .entry))) (ask (Ask.book number request)))
-        × (lent (now (head .exit)) (now (events .exit)) (now (free .exit)) (now (book .exit)) ≡ tables-after (now (links .entry)) (lent (now (head .entry)) (now (events .entry)) (now (free .entry)) (now (book .entry))) (ask (Ask.book number request))) ⌝ }
+    ensures { λ r. ⌜ (let t = lent (now (head .entry)) (now (events .entry)) (now (free .entry)) (now (book .entry)) in
+        (r ≡ granted-answer (now (links .entry)) t (ask (Ask.book number request)))
+        × (lent (now (head .exit)) (now (events .exit)) (now (free .exit)) (now (book .exit)) ≡ tables-after (now (links .entry)) t (ask (Ask.book number request)))) ⌝ }
 {
     let table = link_table(links);
     let out = make_booking(*head, table, events, free, book, number, request);
@@ -119,8 +121,9 @@ pub extern "C" fn gcr_list_starts(
     request: Request,
     list: &mut [u32],
 ) -> Listed
-    ensures { λ r. ⌜ (r ≡ listed-answer (now (links .entry)) (lent (now (head .entry)) (now (events .entry)) (now (free .entry)) (now (book .entry))) (ask (Ask.list (length (now (list .entry))) request)))
-        × (now (list .exit) ≡ list-after (now (links .entry)) (lent (now (head .entry)) (now (events .entry)) (now (free .entry)) (now (book .entry))) (ask (Ask.list (length (now (list .entry))) request)) (now (list .entry))) ⌝ }
+    ensures { λ r. ⌜ (let t = lent (now (head .entry)) (now (events .entry)) (now (free .entry)) (now (book .entry)) in
+        (r ≡ listed-answer (now (links .entry)) t (ask (Ask.list (length (now (list .entry))) request)))
+        × (now (list .exit) ≡ list-after (now (links .entry)) t (ask (Ask.list (length (now (list .entry))) request)) (now (list .entry)))) ⌝ }
 {
     let table = link_table(links);
     list_starts(*head, table, events, free, book, request, list)
@@ -136,8 +139,9 @@ pub extern "C" fn gcr_cancel(
     book: &mut [u32],
     number: u32,
 ) -> u32
-    ensures { λ r. ⌜ (r ≡ refusal-answer (now (links .entry)) (lent (now (head .entry)) (now (events .entry)) (now (free .entry)) (now (book .entry))) (ask (Ask.cancel number)))
-        × (lent (now (head .exit)) (now (events .exit)) (now (free .exit)) (now (book .exit)) ≡ tables-after (now (links .entry)) (lent (now (head .entry)) (now (events .entry)) (now (free .entry)) (now (book .entry))) (ask (Ask.cancel number))) ⌝ }
+    ensures { λ r. ⌜ (let t = lent (now (head .entry)) (now (events .entry)) (now (free .entry)) (now (book .entry)) in
+        (r ≡ refusal-answer (now (links .entry)) t (ask (Ask.cancel number)))
+        × (lent (now (head .exit)) (now (events .exit)) (now (free .exit)) (now (book .exit)) ≡ tables-after (now (links .entry)) t (ask (Ask.cancel number)))) ⌝ }
 {
     let table = link_table(links);
     let out = cancel(*head, table, events, free, book, number);
@@ -155,8 +159,9 @@ pub extern "C" fn gcr_move_clock(
     book: &mut [u32],
     minute: Minute,
 ) -> u32
-    ensures { λ r. ⌜ (r ≡ refusal-answer (now (links .entry)) (lent (now (head .entry)) (now (events .entry)) (now (free .entry)) (now (book .entry))) (ask (Ask.move-clock (minute .0))))
-        × (lent (now (head .exit)) (now (events .exit)) (now (free .exit)) (now (book .exit)) ≡ tables-after (now (links .entry)) (lent (now (head .entry)) (now (events .entry)) (now (free .entry)) (now (book .entry))) (ask (Ask.move-clock (minute .0)))) ⌝ }
+    ensures { λ r. ⌜ (let t = lent (now (head .entry)) (now (events .entry)) (now (free .entry)) (now (book .entry)) in
+        (r ≡ refusal-answer (now (links .entry)) t (ask (Ask.move-clock (minute .0))))
+        × (lent (now (head .exit)) (now (events .exit)) (now (free .exit)) (now (book .exit)) ≡ tables-after (now (links .entry)) t (ask (Ask.move-clock (minute .0))))) ⌝ }
 {
     let table = link_table(links);
     let out = move_clock(*head, table, events, free, book, minute);

@@ -12,12 +12,13 @@ use Rattle.units.specs.Lists.{count-from}
 use Rattle.layout.specs.Layout.{link-bytes}
 use Rattle.layout.specs.Records.{if-passed}
 use Rattle.units.specs.declared.LinkTable.{LinkTable}
+use Rattle.histories.proofs.Exits.{Gives, gives-of}
 use Rattle.rules.specs.Calls.{set-up}
 use Rattle.rules.specs.Tables.{Tables, lent}
 use Rattle.units.specs.LinkTables.{links-of, columns, empty-table}
 use Rattle.desk_core.specs.Lent.{refusal-answer, tables-after}
 use Rattle.opening.specs.declared.LinksFound.{LinksFound}
-use Rattle.opening.specs.Opened.{links-refusal, links-in, first-byte, bytes-refusal, Opened, by-set-up, opened, desk-of, Found}
+use Rattle.opening.specs.Opened.{links-refusal, links-in, first-byte, bytes-refusal, Opened, by-set-up, opened, Found}
 use Rattle.desk_core.proofs.Handed.{Back}
 
 module _ (bytes : List ℕ) where
@@ -57,20 +58,19 @@ module _ (bytes : List ℕ) where
 
   module _ (t : Tables) where
     abbrev by-test : Bool → Opened
-    by-test passed = if-passed passed (by-set-up t (links-in bytes (first-byte bytes))) (record { refusal = bytes-refusal bytes; links = []; tables = t })
+    by-test passed = if-passed passed (by-set-up t (links-in bytes (first-byte bytes))) (record { answer = record { refusal = bytes-refusal bytes; links = [] }; tables = t })
 
     -- a refusal leaves the tables as they came
     pub stopped : {k : ℕ} {links : LinkTable} → k ≡ bytes-refusal bytes → (k ≡ 0 → ⊥) → links ≡ empty-table 0
-        → desk-of (record { refusal = k; head = t .head; links = links }) (t .events) (t .free) (t .book) ≡ opened t bytes
+        → Gives (record { refusal = k; links = links-of links }) t (opened t bytes)
     unfolding opened links-of columns count-from
-    stopped e ne b = ap₂ (λ x y. record { refusal = x; links = links-of y; tables = t }) e b ∙ sym (ap by-test (ne-eqb (bytes-refusal bytes) 0 (λ z. ne (e ∙ z))))
+    stopped e ne b =
+        gives-of by-test (sym (ne-eqb (bytes-refusal bytes) 0 (λ z. ne (e ∙ z)))) (ap₂ (λ x y. record { refusal = x; links = links-of y }) e b, refl)
 
     -- where the bytes pass, the rest is the set-up's
     pub set-up-with : {k : ℕ} {head : Head} {events free places : List ℕ} (links : LinkTable) → bytes-refusal bytes ≡ 0 → links-of links ≡ links-in bytes (first-byte bytes)
         → k ≡ refusal-answer (links-of links) t set-up → Back (links-of links) t set-up head events free places
-        → desk-of (record { refusal = k; head = head; links = links }) events free places ≡ opened t bytes
+        → Gives (record { refusal = k; links = links-of links }) (lent head events free places) (opened t bytes)
     unfolding opened refusal-answer tables-after
     set-up-with links z same e b =
-        (λ i. record { refusal = e i; links = links-of links; tables = b i })
-        ∙ ap (by-set-up t) same
-        ∙ sym (ap by-test (eq-eqb (bytes-refusal bytes) 0 z))
+        gives-of by-test (sym (eq-eqb (bytes-refusal bytes) 0 z)) (gives-of (by-set-up t) same (ap (λ k. record { refusal = k; links = links-of links }) e, b))

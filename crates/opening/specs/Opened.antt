@@ -17,8 +17,9 @@ use Rattle.layout.specs.Values.{link-values}
 use Rattle.report.specs.declared.Report.{Report}
 use Rattle.report.specs.declared.Report.the-variants.{DeskLinks, DeskRefused}
 use Rattle.units.specs.declared.LinkTable.{LinkTable}
+use Rattle.histories.specs.Kinds as kinds
 use Rattle.rules.specs.Calls.{set-up, values}
-use Rattle.rules.specs.Tables.{Tables, lent}
+use Rattle.rules.specs.Tables.{Tables}
 use Rattle.rules.specs.Desk.{Outcome, outcome}
 use Rattle.units.specs.LinkTables.{links-of}
 use Rattle.opening.specs.declared.LinksFound.{LinksFound}
@@ -54,14 +55,17 @@ bytes-refusal bytes =
     if-passed (eqb (length bytes) 0) bad-length
     (if-passed (within 1 most-links (first-byte bytes)) (if-passed (leb (lead-bytes + first-byte bytes * link-bytes) (length bytes)) (links-refusal bytes (first-byte bytes)) bad-length) bad-size)
 
--- the start's refusal number, 0 if there is none, the list of links, and the tables
-pub record Opened : Type 0 where
+-- what the start is answered: its refusal number, 0 if there is none, and the list of links
+pub record Told : Type 0 where
   pub refusal : ℕ
   pub links : List Link
-  pub tables : Tables
+
+-- that, and the tables that the start leaves
+abbrev pub Opened : Type 0
+Opened = kinds.Outcome Told Tables
 
 abbrev pub with-outcome : List Link → Outcome → Opened
-with-outcome links o = record { refusal = values (o .answer) .number; links = links; tables = o .tables }
+with-outcome links o = record { answer = record { refusal = values (o .answer) .number; links = links }; tables = o .tables }
 
 -- 'then the set-up (2)'
 abbrev pub by-set-up : Tables → List Link → Opened
@@ -69,11 +73,11 @@ by-set-up t links = with-outcome links (outcome links t set-up)
 
 -- what the first bytes of a session give
 unfoldable pub opened : Tables → List ℕ → Opened
-opened t bytes = if-passed (eqb (bytes-refusal bytes) 0) (by-set-up t (links-in bytes (first-byte bytes))) (record { refusal = bytes-refusal bytes; links = []; tables = t })
+opened t bytes = if-passed (eqb (bytes-refusal bytes) 0) (by-set-up t (links-in bytes (first-byte bytes))) (record { answer = record { refusal = bytes-refusal bytes; links = [] }; tables = t })
 
--- the desk that was opened and its tables, as they are handed back
-abbrev pub desk-of : OpenedDesk → List ℕ → List ℕ → List ℕ → Opened
-desk-of r events free places = record { refusal = r .refusal; links = links-of (r .links); tables = lent (r .head) events free places }
+-- the answer to the start, as it is handed back
+abbrev pub told-by : OpenedDesk → Told
+told-by r = record { refusal = r .refusal; links = links-of (r .links) }
 
 -- a refusal number, and where it is 0 these links
 pub record Found (refusal : ℕ) (links : List Link) (r : LinksFound) : Type 0 where

@@ -24,7 +24,7 @@ ghost use Rattle.layout.specs.Layout.{lead-bytes, link-bytes};
 ghost use Rattle.rules.specs.Tables.{lent};
 ghost use Rattle.report.specs.Line.{line, max-line};
 ghost use Rattle.report.specs.Written.{Wrote};
-ghost use Rattle.opening.specs.Opened.{link-record, links-refusal, links-in, first-byte, bytes-refusal, opened, desk-of, Found, desk-report};
+ghost use Rattle.opening.specs.Opened.{link-record, links-refusal, links-in, first-byte, bytes-refusal, opened, told-by, Found, desk-report};
 
 // The links of a session's first bytes; where the refusal number is not 0 they say nothing.
 pub struct LinksFound {
@@ -108,7 +108,9 @@ pub fn open_desk(
     free: &mut [u32],
     book: &mut [u32],
 ) -> Opened
-    ensures { λ r. ⌜ desk-of r (now (events .exit)) (now (free .exit)) (now (book .exit)) ≡ opened (lent head (now (events .entry)) (now (free .entry)) (now (book .entry))) (now (bytes .entry)) ⌝ }
+    ensures { λ r. ⌜ (let t = lent head (now (events .entry)) (now (free .entry)) (now (book .entry)) in
+        (told-by r ≡ opened t (now (bytes .entry)) .answer)
+        × (lent (r .head) (now (events .exit)) (now (free .exit)) (now (book .exit)) ≡ opened t (now (bytes .entry)) .tables)) ⌝ }
 {
     let found = session_links(bytes);
     let refusal = found.refusal;

@@ -16,12 +16,13 @@ use Rattle.layout.specs.Records.{if-passed}
 use Rattle.report.specs.declared.Report.{Report}
 use Rattle.report.specs.declared.Report.the-variants as reports
 use Rattle.histories.specs.Kinds as kinds
+use Rattle.histories.proofs.Exits.{Gives, gives-of}
 use Rattle.rules.specs.Calls.{Ask, Call, ask, Values, values}
 use Rattle.rules.specs.Tables.{Tables, lent}
 use Rattle.rules.specs.Desk.{outcome}
 use Rattle.desk_core.specs.Lent.{granted-answer, refusal-answer, tables-after}
 use Rattle.desk_core.proofs.Handed.{Back}
-use Rattle.orders.specs.Ordered.{call-of, accepted, reported, path-shown, answered, by-reading, handed}
+use Rattle.orders.specs.Ordered.{call-of, accepted, reported, path-shown, answered, by-reading}
 
 module _ (links : List Link) (t : Tables) where
   -- an offer's are the ones that were lent
@@ -30,9 +31,9 @@ module _ (links : List Link) (t : Tables) where
   offer-keeps r = refl
 
   -- an order that cannot be read keeps them too
-  pub unread : {number : ℕ} {path : Path} {read : OrderRead} → path ≡ path-of [] → read ≡ reads.Refused number
-      → handed (record { head = t .head; report = reports.Refused number; path = path }) (t .events) (t .free) (t .book) ≡ by-reading links t read
-  unread {number} p e = ap (λ x. record { report = reports.Refused number; path = x; tables = t }) p ∙ sym (ap (by-reading links t) e)
+  pub unread : {number : ℕ} {path : Path} {read : OrderRead} → path ≡ path-of [] → read ≡ reads.Refused number → Gives (record { report = reports.Refused number; path = path }) t (by-reading links t read)
+  unread {number} p e =
+      gives-of (by-reading links t) (sym e) (ap (λ x. record { report = reports.Refused number; path = x }) p, refl)
 
   module _ (c : Call) where
     abbrev pub said : Values
@@ -54,17 +55,17 @@ module _ (links : List Link) (t : Tables) where
 
   module _ (order : Order) {head : Head} {path : Path} {events free places : List ℕ} where
     given : {report : Report} → report ≡ reported order (said (call-of order)) → path ≡ path-shown order (said (call-of order)) → Back links t (call-of order) head events free places
-        → handed (record { head = head; report = report; path = path }) events free places ≡ answered links t order
+        → Gives (record { report = report; path = path }) (lent head events free places) (answered links t order)
     unfolding answered tables-after
-    given r p b = λ i. record { report = r i; path = p i; tables = b i }
+    given r p b = (λ i. record { report = r i; path = p i }, b)
 
     -- a number that is not 0 is that of a refusal
     pub refused : {k : ℕ} → k ≡ said (call-of order) .number → (k ≡ 0 → ⊥) → path ≡ path-shown order (said (call-of order)) → Back links t (call-of order) head events free places
-        → handed (record { head = head; report = reports.Refused k; path = path }) events free places ≡ answered links t order
+        → Gives (record { report = reports.Refused k; path = path }) (lent head events free places) (answered links t order)
     refused {k} e ne p b =
         given (ap reports.Refused e ∙ ap (λ x. if-passed x (accepted order (said (call-of order))) (reports.Refused (said (call-of order) .number))) (sym (ne-eqb (said (call-of order) .number) 0 (λ z. ne (e ∙ z))))) p b
 
     -- 0 is that of an accepted call
     pub done : {k : ℕ} {report : Report} → k ≡ said (call-of order) .number → k ≡ 0 → report ≡ accepted order (said (call-of order)) → path ≡ path-shown order (said (call-of order))
-        → Back links t (call-of order) head events free places → handed (record { head = head; report = report; path = path }) events free places ≡ answered links t order
+        → Back links t (call-of order) head events free places → Gives (record { report = report; path = path }) (lent head events free places) (answered links t order)
     done e z r p b = given (r ∙ ap (λ x. if-passed x (accepted order (said (call-of order))) (reports.Refused (said (call-of order) .number))) (sym (eq-eqb (said (call-of order) .number) 0 (sym e ∙ z)))) p b

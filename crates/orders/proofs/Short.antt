@@ -70,11 +70,11 @@ unfolding kinds.outcome kinds.answer-on kinds.answer
 outcome-short links t a =
     checked-short (table-checks links t (ask a)) (answer links (held t) a) (checked-short (own-checks links (held t) a) (result links (held t) a) (result-short links (held t) a))
 
-pub ordered-short : (links : List Link) (t : Tables) (bytes : List ℕ) → ordered links t bytes .path .count ≤ most-hops
+pub ordered-short : (links : List Link) (t : Tables) (bytes : List ℕ) → ordered links t bytes .answer .path .count ≤ most-hops
 unfolding ordered answered
 ordered-short links t bytes = by (order-read bytes)
   where
-    by : (r : OrderRead) → by-reading links t r .path .count ≤ most-hops
+    by : (r : OrderRead) → by-reading links t r .answer .path .count ≤ most-hops
     by (reads.Read (orders.Book number w)) = outcome-short links t (book number (request-of w))
     by (reads.Read (orders.Cancel number)) = omega arith
     by (reads.Read (orders.Clock minute)) = omega arith

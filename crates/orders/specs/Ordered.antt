@@ -15,16 +15,20 @@ use Rattle.layout.specs.Values.{request-of}
 use Rattle.report.specs.declared.Report.{Report}
 use Rattle.report.specs.declared.Report.the-variants as reports
 use Rattle.report.specs.Line.{line}
-use Rattle.rules.specs.Calls.{Ask, Call, ask, Answer, Values, values}
-use Rattle.rules.specs.Tables.{Tables, lent}
+use Rattle.histories.specs.Kinds as kinds
+use Rattle.rules.specs.Calls.{Ask, Call, ask, Values, values}
+use Rattle.rules.specs.Tables.{Tables}
 use Rattle.rules.specs.Desk.{Outcome, outcome}
 use Rattle.orders.specs.declared.Answered.{Answered}
 
--- what the line of an order says, the path beside it, and the tables that the order leaves
-pub record Ordered : Type 0 where
+-- what an order is answered: what its line says, and the path beside it
+pub record Told : Type 0 where
   pub report : Report
   pub path : Path
-  pub tables : Tables
+
+-- that, and the tables that the order leaves
+abbrev pub Ordered : Type 0
+Ordered = kinds.Outcome Told Tables
 
 -- the call that an order asks for; an open latest start is the last minute
 abbrev pub call-of : Order → Call
@@ -53,7 +57,7 @@ path-shown (orders.Offer w) v = record { count = v .count; links = v .path }
 
 -- an order that was read, by the outcome of its call
 abbrev pub answered-by : Order → Outcome → Ordered
-answered-by order o = record { report = reported order (values (o .answer)); path = path-shown order (values (o .answer)); tables = o .tables }
+answered-by order o = record { answer = record { report = reported order (values (o .answer)); path = path-shown order (values (o .answer)) }; tables = o .tables }
 
 unfoldable pub answered : List Link → Tables → Order → Ordered
 answered links t order = answered-by order (outcome links t (call-of order))
@@ -61,16 +65,16 @@ answered links t order = answered-by order (outcome links t (call-of order))
 -- 'reading a record': an order that cannot be read is refused and changes nothing
 abbrev pub by-reading : List Link → Tables → OrderRead → Ordered
 by-reading links t (reads.Read order) = answered links t order
-by-reading links t (reads.Refused number) = record { report = reports.Refused number; path = path-of []; tables = t }
+by-reading links t (reads.Refused number) = record { answer = record { report = reports.Refused number; path = path-of [] }; tables = t }
 
 -- what any bytes are answered as an order
 unfoldable pub ordered : List Link → Tables → List ℕ → Ordered
 ordered links t bytes = by-reading links t (order-read bytes)
 
--- the answer to an order and the tables, as they are handed back
-abbrev pub handed : Answered → List ℕ → List ℕ → List ℕ → Ordered
-handed r events free places = record { report = r .report; path = r .path; tables = lent (r .head) events free places }
+-- the answer to an order, as it is handed back
+abbrev pub told-by : Answered → Told
+told-by r = record { report = r .report; path = r .path }
 
 -- document 01's line of an order at its place: the path's links in travel order
 abbrev pub line-of : ℕ → Ordered → List ℕ
-line-of place o = line place (o .report) (take (o .path .count) (o .path .links))
+line-of place o = line place (o .answer .report) (take (o .answer .path .count) (o .answer .path .links))

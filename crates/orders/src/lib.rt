@@ -24,7 +24,7 @@ ghost use Rattle.units.specs.LinkTables.{links-of};
 ghost use Rattle.rules.specs.Tables.{lent};
 ghost use Rattle.report.specs.Line.{max-line};
 ghost use Rattle.report.specs.Written.{Wrote};
-ghost use Rattle.orders.specs.Ordered.{answered, ordered, handed, line-of};
+ghost use Rattle.orders.specs.Ordered.{answered, ordered, told-by, line-of};
 
 // The answer to an order: the head after it, what its line says, and the path beside it.
 pub struct Answered {
@@ -49,7 +49,9 @@ fn answer_booking(
     number: u32,
     wish: Wish,
 ) -> Answered
-    ensures { λ r. ⌜ handed r (now (events .exit)) (now (free .exit)) (now (book .exit)) ≡ answered (links-of links) (lent head (now (events .entry)) (now (free .entry)) (now (book .entry))) (Book number wish) ⌝ }
+    ensures { λ r. ⌜ (let t = lent head (now (events .entry)) (now (free .entry)) (now (book .entry)) in
+        (told-by r ≡ answered (links-of links) t (Book number wish) .answer)
+        × (lent (r .head) (now (events .exit)) (now (free .exit)) (now (book .exit)) ≡ answered (links-of links) t (Book number wish) .tables)) ⌝ }
 {
     let request = request_of(wish);
     let outcome = make_booking(head, links, events, free, book, number, request);
@@ -81,7 +83,9 @@ fn answer_offer(
     book: &[u32],
     wish: Wish,
 ) -> Answered
-    ensures { λ r. ⌜ handed r (now (events .entry)) (now (free .entry)) (now (book .entry)) ≡ answered (links-of links) (lent head (now (events .entry)) (now (free .entry)) (now (book .entry))) (Offer wish) ⌝ }
+    ensures { λ r. ⌜ (let t = lent head (now (events .entry)) (now (free .entry)) (now (book .entry)) in
+        (told-by r ≡ answered (links-of links) t (Offer wish) .answer)
+        × (lent (r .head) (now (events .entry)) (now (free .entry)) (now (book .entry)) ≡ answered (links-of links) t (Offer wish) .tables)) ⌝ }
 {
     let request = request_of(wish);
     let answer = offer(head, links, events, free, book, request);
@@ -111,7 +115,9 @@ fn answer_cancel(
     book: &mut [u32],
     number: u32,
 ) -> Answered
-    ensures { λ r. ⌜ handed r (now (events .exit)) (now (free .exit)) (now (book .exit)) ≡ answered (links-of links) (lent head (now (events .entry)) (now (free .entry)) (now (book .entry))) (Cancel number) ⌝ }
+    ensures { λ r. ⌜ (let t = lent head (now (events .entry)) (now (free .entry)) (now (book .entry)) in
+        (told-by r ≡ answered (links-of links) t (Cancel number) .answer)
+        × (lent (r .head) (now (events .exit)) (now (free .exit)) (now (book .exit)) ≡ answered (links-of links) t (Cancel number) .tables)) ⌝ }
 {
     let outcome = cancel(head, links, events, free, book, number);
     let after = outcome.head;
@@ -139,7 +145,9 @@ fn answer_clock(
     book: &mut [u32],
     minute: Minute,
 ) -> Answered
-    ensures { λ r. ⌜ handed r (now (events .exit)) (now (free .exit)) (now (book .exit)) ≡ answered (links-of links) (lent head (now (events .entry)) (now (free .entry)) (now (book .entry))) (Clock minute) ⌝ }
+    ensures { λ r. ⌜ (let t = lent head (now (events .entry)) (now (free .entry)) (now (book .entry)) in
+        (told-by r ≡ answered (links-of links) t (Clock minute) .answer)
+        × (lent (r .head) (now (events .exit)) (now (free .exit)) (now (book .exit)) ≡ answered (links-of links) t (Clock minute) .tables)) ⌝ }
 {
     let outcome = move_clock(head, links, events, free, book, minute);
     let after = outcome.head;
@@ -167,7 +175,9 @@ fn answer_read(
     book: &mut [u32],
     order: Order,
 ) -> Answered
-    ensures { λ r. ⌜ handed r (now (events .exit)) (now (free .exit)) (now (book .exit)) ≡ answered (links-of links) (lent head (now (events .entry)) (now (free .entry)) (now (book .entry))) (order) ⌝ }
+    ensures { λ r. ⌜ (let t = lent head (now (events .entry)) (now (free .entry)) (now (book .entry)) in
+        (told-by r ≡ answered (links-of links) t order .answer)
+        × (lent (r .head) (now (events .exit)) (now (free .exit)) (now (book .exit)) ≡ answered (links-of links) t order .tables)) ⌝ }
 {
     match order {
         Order::Book(number, wish) => answer_booking(head, links, events, free, book, number, wish),
@@ -186,7 +196,9 @@ pub fn answer_order(
     free: &mut [u32],
     book: &mut [u32],
 ) -> Answered
-    ensures { λ r. ⌜ handed r (now (events .exit)) (now (free .exit)) (now (book .exit)) ≡ ordered (links-of links) (lent head (now (events .entry)) (now (free .entry)) (now (book .entry))) (now (bytes .entry)) ⌝ }
+    ensures { λ r. ⌜ (let t = lent head (now (events .entry)) (now (free .entry)) (now (book .entry)) in
+        (told-by r ≡ ordered (links-of links) t (now (bytes .entry)) .answer)
+        × (lent (r .head) (now (events .exit)) (now (free .exit)) (now (book .exit)) ≡ ordered (links-of links) t (now (bytes .entry)) .tables)) ⌝ }
 {
     match read_order(bytes) {
         OrderRead::Read(order) => answer_read(head, links, events, free, book, order),
@@ -211,8 +223,8 @@ pub fn run_order(
     place: u64,
 ) -> Line
     requires { ⌜ at + max-line ≤ length (now out) ⌝ }
-    ensures { λ r. ⌜ lent (r .head) (now (events .exit)) (now (free .exit)) (now (book .exit)) ≡ ordered (links-of links) (lent head (now (events .entry)) (now (free .entry)) (now (book .entry))) (now (bytes .entry)) .tables ⌝ }
-    ensures { λ r. ⌜ Wrote (line-of place (ordered (links-of links) (lent head (now (events .entry)) (now (free .entry)) (now (book .entry))) (now (bytes .entry)))) (now (out .entry)) at (now (out .exit)) (r .next) ⌝ }
+    ensures { λ r. ⌜ (let o = ordered (links-of links) (lent head (now (events .entry)) (now (free .entry)) (now (book .entry))) (now (bytes .entry)) in
+        Wrote (line-of place o) (now (out .entry)) at (now (out .exit)) (r .next) × (lent (r .head) (now (events .exit)) (now (free .exit)) (now (book .exit)) ≡ o .tables)) ⌝ }
     ensures { λ r. ⌜ r .next ≤ at + max-line ⌝ }
 {
     let answer = answer_order(bytes, head, links, events, free, book);

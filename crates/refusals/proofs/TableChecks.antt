@@ -3,7 +3,6 @@ use mathlib.Core.Path.{_≡_, refl, sym, _∙_, ap}
 use mathlib.Core.List.{List}
 use mathlib.Core.Bool.{Bool, true, false}
 use Prim.Native.Nat.{ℕ, _*_, _≤_}
-use native.Mathlib.Nat.{mul-le-mul-right}
 use native.Mathlib.Omega.{arith}
 use lib.ListN.{length}
 use Rattle.units.specs.declared.Link.{Link}
@@ -16,8 +15,6 @@ use Rattle.rules.specs.Calls.{Ask, ask, checked, first-refusal, list-fits}
 use Rattle.rules.specs.Tables.{Tables, sizes-ok, sized, sound, lent-checks, lent, Fine}
 use Rattle.rules.specs.Desk.{outcome}
 use Rattle.units.specs.LinkTables.{links-of}
-use Rattle.rules.proofs.Tests.{sized-tells}
-use Rattle.rules.proofs.Obeys.{sound-facts}
 use Rattle.rules.proofs.LinkColumns.{links-count}
 use Rattle.rules.proofs.Exits.{refused-with, unsized, list-unfit, unsound}
 
@@ -95,14 +92,3 @@ module _ (links : List Link) (t : Tables) where
       by true true false s f e = unsound links t a s f e ∙ ap (λ j. refused-with j t) (sym (q ∙ says-3 (list-fits a) s f e))
       by true false z s f e = list-unfit links t a s f ∙ ap (λ j. refused-with j t) (sym (q ∙ says-13 (list-fits a) s f))
       by false y z s f e = unsized links t (ask a) s ∙ ap (λ j. refused-with j t) (sym (q ∙ says-1 (list-fits a) s))
-
--- a figure in range is not below the range
-pub range-low : (low high x : ℕ) → within low high x ≡ true → low ≤ x
-range-low low high x e = in-range low high x .0 e .0
-
--- the places that the head counts are in the book
-pub places-fit : (links : LinkTable) (t : Tables) → Fine (links-of links) t → t .head .bookings * place-size ≤ length (t .book)
-places-fit links t f =
-    let s = sized-tells (links-of links) t .0 (f .is-sized) in
-    let o = sound-facts (links-of links) t (f .is-sound) in
-    rw (s .book-right) (mul-le-mul-right place-size (o .count-right))

@@ -2,26 +2,27 @@
 // not pass, or 0. Nothing here writes a table.
 use book::Standing;
 use book::find;
-use soundness::ends_ok;
-use soundness::in_range;
+use limits::in_range;
+use limits::links_right;
+use limits::request_ok;
+use limits::sized;
 use soundness::sound;
 use units::BAD_FIELD;
+use units::BAD_LINK;
 use units::BAD_LIST;
 use units::BAD_SIZE;
-use units::BOOK_FIGURES;
 use units::BOOK_FULL;
 use units::BOOKINGS;
-use units::EVENTS;
-use units::FREE_FIGURES;
+use units::CLOCK_BACK;
 use units::Head;
-use units::LINKS;
 use units::LIST_FIGURES;
+use units::LinkNumber;
 use units::LinkTable;
-use units::MAX_BANDWIDTH;
-use units::MAX_DURATION;
 use units::MAX_MINUTE;
 use units::MAX_NUMBER;
+use units::MAX_SHOWN;
 use units::Minute;
+use units::NOT_STANDING;
 use units::NUMBER_STANDS;
 use units::Request;
 use units::TOO_LATE;
@@ -33,53 +34,9 @@ ghost use Prim.Native.Nat.{_*_, _≤_, max};
 ghost use lib.Dec.{eqb};
 ghost use lib.ListN.{length};
 ghost use Rattle.units.specs.Limits.{place-size, list-size};
-ghost use Rattle.rules.specs.Calls.{Ask, request-ok, first-refusal, own-checks};
-ghost use Rattle.rules.specs.Tables.{held-by, sizes-ok, lent-checks, lent};
+ghost use Rattle.rules.specs.Calls.{Ask, set-up, first-refusal, own-checks};
+ghost use Rattle.rules.specs.Tables.{held-by, lent-checks, table-checks, lent};
 ghost use Rattle.units.specs.LinkTables.{links-of};
-
-// Whether there are 1 to 64 links and the lent tables have the sizes that document 01 states.
-pub fn sized(links: usize, events: usize, free: usize, book: usize) -> bool
-    ensures { λ r. ⌜ r ≡ sizes-ok links events free book ⌝ }
-{
-    if links < 1 {
-        return false;
-    }
-    if LINKS < links {
-        return false;
-    }
-    if events != EVENTS {
-        return false;
-    }
-    if free != FREE_FIGURES {
-        return false;
-    }
-    if book != BOOK_FIGURES {
-        return false;
-    }
-    true
-}
-
-// Whether every field of a request is in range, and its nodes differ.
-fn request_ok(request: Request) -> bool
-    ensures { λ r. ⌜ r ≡ request-ok request ⌝ }
-{
-    if !ends_ok(request.from, request.to) {
-        return false;
-    }
-    if !in_range(1, MAX_BANDWIDTH, request.bandwidth.0) {
-        return false;
-    }
-    if !in_range(1, MAX_DURATION, request.duration.0) {
-        return false;
-    }
-    if MAX_MINUTE < request.earliest.0 {
-        return false;
-    }
-    if MAX_MINUTE < request.latest.0 {
-        return false;
-    }
-    true
-}
 
 // Document 01's low: the later of earliest start and clock.
 pub fn low_minute(earliest: Minute, clock: Minute) -> Minute
@@ -123,6 +80,65 @@ pub fn book_refusal(head: Head, book: &[u32], number: u32, request: Request) -> 
     }
     if BOOKINGS <= count {
         return BOOK_FULL;
+    }
+    0
+}
+
+// The number of the first check of its own that a cancellation does not pass, or 0.
+pub fn cancel_refusal(head: Head, book: &[u32], number: u32) -> u32
+    requires { ⌜ head .bookings * place-size ≤ length (now book) ⌝ }
+    ensures { λ r. ⌜ r ≡ first-refusal (own-checks [] (held-by head (now (book .entry))) (Ask.cancel number)) ⌝ }
+{
+    if !in_range(1, MAX_NUMBER, number) {
+        return BAD_FIELD;
+    }
+    if let Standing::At(_) = find(book, head.bookings as usize, number) {
+        return 0;
+    }
+    NOT_STANDING
+}
+
+// The number of the first check of its own that a clock move does not pass, or 0.
+pub fn clock_refusal(head: Head, minute: Minute) -> u32
+    ensures { λ r. ⌜ r ≡ first-refusal (own-checks [] (held-by head []) (Ask.move-clock (minute .0))) ⌝ }
+{
+    if MAX_MINUTE < minute.0 {
+        return BAD_FIELD;
+    }
+    if minute.0 < head.clock.0 {
+        return CLOCK_BACK;
+    }
+    0
+}
+
+// The number of the first check of its own that a showing does not pass, or 0.
+pub fn show_refusal(head: Head, links: LinkTable, link: LinkNumber, minute: Minute) -> u32
+    ensures { λ r. ⌜ r ≡ first-refusal (own-checks (links-of links) (held-by head []) (Ask.show (link .0) (minute .0))) ⌝ }
+{
+    if links.count <= link.0 as usize {
+        return BAD_FIELD;
+    }
+    if !in_range(head.clock.0, MAX_SHOWN, minute.0) {
+        return BAD_FIELD;
+    }
+    0
+}
+
+// The number of the first check that a set-up does not pass, or 0: the sizes of what is lent, and the links.
+pub fn set_up_refusal(
+    head: Head,
+    links: LinkTable,
+    events: &[u32],
+    free: &[u32],
+    book: &[u32],
+) -> u32
+    ensures { λ r. ⌜ r ≡ first-refusal (table-checks (links-of links) (lent head (now (events .entry)) (now (free .entry)) (now (book .entry))) set-up) ⌝ }
+{
+    if !sized(links.count, events.len(), free.len(), book.len()) {
+        return BAD_SIZE;
+    }
+    if !links_right(links) {
+        return BAD_LINK;
     }
     0
 }

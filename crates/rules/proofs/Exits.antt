@@ -10,7 +10,7 @@ use Rattle.histories.proofs.Checks.{Passed, Numbered, passed-number, stopped-nu
 use Rattle.histories.proofs.Exits.{outcome-of, left-refused}
 use Rattle.rules.specs.Plain.{Plain}
 use Rattle.rules.specs.Calls.{Ask, book, offer, list, cancel, move-clock, show, Call, set-up, set-up-with, ask, Answer, done, refuse, checked, first-refusal, own-checks, result, list-fits}
-use Rattle.rules.specs.Tables.{Tables, sized, links-ok, sound, held}
+use Rattle.rules.specs.Tables.{Tables, sized, sound, held, table-checks}
 use Rattle.rules.specs.Desk.{Outcome, bandwidth-desk, answer-on, left-by, outcome}
 
 -- a refusal, with the tables as they came
@@ -35,13 +35,17 @@ module _ (links : List Link) (t : Tables) where
   unsized (set-up-with s) e = refused-outcome set-up 1 (omega arith) (rw e)
   unsized (ask a) e = refused-outcome (ask a) 1 (omega arith) (rw e)
 
-  pub bad-links : sized links t ≡ true → links-ok links ≡ false → outcome links t set-up ≡ refused-with 2 t
+  -- a set-up, by the number that the code computes
+  pub set-up-stopped : (k : ℕ) → first-refusal (table-checks links t set-up) ≡ k → (k ≡ 0 → ⊥) → outcome links t set-up ≡ refused-with k t
   unfolding kinds.answer-on checked
-  bad-links s e = refused-outcome set-up 2 (omega arith) (rw (s, e))
+  set-up-stopped k q ne = refused-outcome set-up k (omega (arith, ne)) (stopped-number refuse (table-checks links t set-up) done k q ne)
 
-  pub set-up-done : sized links t ≡ true → links-ok links ≡ true → outcome links t set-up ≡ record { answer = done; tables = left-by links t set-up done }
+  pub set-up-passed : first-refusal (table-checks links t set-up) ≡ 0 → Passed (table-checks links t set-up)
+  set-up-passed = passed-number (table-checks links t set-up) (omega arith, (omega arith, tt))
+
+  pub set-up-done : first-refusal (table-checks links t set-up) ≡ 0 → outcome links t set-up ≡ record { answer = done; tables = left-by links t set-up done }
   unfolding kinds.answer-on checked
-  set-up-done s e = outcome-of bandwidth-desk links t set-up done (rw (s, e))
+  set-up-done q = outcome-of bandwidth-desk links t set-up done (passed-answer refuse (table-checks links t set-up) done (set-up-passed q))
 
   pub list-unfit : (a : Ask) → sized links t ≡ true → list-fits a ≡ false → outcome links t (ask a) ≡ refused-with 13 t
   unfolding kinds.answer-on checked

@@ -9,3 +9,4 @@ pub mod Step
 pub mod Exits
 pub mod LinkColumns
 pub mod Numbers
+pub mod Standing

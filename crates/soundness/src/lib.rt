@@ -2,12 +2,13 @@
 // ones that links, clock and book give. Every call but the set-up asks this first. Nothing here writes a lent table.
 use book::Booking;
 use book::booking_at;
+use limits::in_range;
+use limits::links_right;
 use rebuild::rebuild;
 use units::BOOKINGS;
 use units::EVENTS;
 use units::FREE_FIGURES;
 use units::Head;
-use units::LAST_NODE;
 use units::LinkTable;
 use units::MAX_BANDWIDTH;
 use units::MAX_DURATION;
@@ -21,66 +22,17 @@ ghost use mathlib.Core.List.{[]};
 ghost use mathlib.Core.Bool.{true};
 ghost use mathlib.Core.Logic.{_↔_};
 ghost use Prim.Native.Nat.{_≤_};
-ghost use Rattle.units.specs.Limits.{most-links, most-hops};
-ghost use Rattle.units.specs.Lists.{within, equal};
+ghost use Rattle.units.specs.Limits.{most-hops};
+ghost use Rattle.units.specs.Lists.{equal};
 ghost use Rattle.path_search.specs.Paths.{path-ok};
 ghost use Rattle.rules.specs.Plain.{graph};
-ghost use Rattle.rules.specs.Calls.{ends-ok};
-ghost use Rattle.rules.specs.Tables.{links-ok, booking-ok, booking-of, held-by, sized, sound, lent};
+ghost use Rattle.rules.specs.Tables.{booking-ok, booking-of, held-by, sized, sound, lent};
 ghost use Rattle.units.specs.LinkTables.{links-of};
 ghost use Rattle.rebuild.specs.Rebuilding.{place-path, CanRebuild};
 ghost use Rattle.soundness.specs.Checking.{zeros-from, tidy, book-ok, FiguresRight, LinksRight, BookFits};
 
 // The nodes that there may be: one more than the most links of a path.
 const NODES: usize = PATH_LINKS + 1;
-
-// Whether a figure is in range, both ends counted.
-pub fn in_range(low: u32, high: u32, figure: u32) -> bool
-    ensures { λ r. ⌜ r ≡ within low high figure ⌝ }
-{
-    if figure < low {
-        return false;
-    }
-    if high < figure {
-        return false;
-    }
-    true
-}
-
-// Whether two nodes are in range and differ.
-pub fn ends_ok(from: u32, to: u32) -> bool
-    ensures { λ r. ⌜ r ≡ ends-ok from to ⌝ }
-{
-    if LAST_NODE < from {
-        return false;
-    }
-    if LAST_NODE < to {
-        return false;
-    }
-    if from == to {
-        return false;
-    }
-    true
-}
-
-// Whether every link has nodes in range that differ and a capacity in range.
-pub fn links_right(links: LinkTable) -> bool
-    requires { ⌜ links .count ≤ most-links ⌝ }
-    ensures { λ r. ⌜ r ≡ links-ok (links-of links) ⌝ }
-{
-    let count = links.count;
-    let mut link = 0;
-    while link < count {
-        if !ends_ok(links.from[link], links.to[link]) {
-            return false;
-        }
-        if !in_range(1, MAX_BANDWIDTH, links.capacity[link]) {
-            return false;
-        }
-        link += 1;
-    }
-    true
-}
 
 // Whether a booking's path has a link, each begins where the one before ended, and no node is met twice.
 fn path_right(links: LinkTable, booking: Booking) -> bool

@@ -10,7 +10,8 @@ use mathlib.Core.Bool.{true, and-eq-true-iff}
 use Rattle.rules.specs.Calls.{Ask, ask, starts, refuse, first-refusal, own-checks, number-ok, request-ok, put-in}
 use Rattle.rules.proofs.Exits.{refused-with, stopped, all-passed, accepted}
 use Rattle.desk_core.proofs.Handed.{handed-booking}
-use Rattle.refusals.proofs.TableChecks.{fine, tables-refused, places-fit}
+use Rattle.refusals.proofs.TableChecks.{fine, tables-refused}
+use Rattle.rules.proofs.Standing.{places-fit}
 use Rattle.desk_core.proofs.BestStart.{best-asks, chosen-start, chosen-none, best-starts, best-none, told, grantable, booked-is}
 use Rattle.desk_core.proofs.make_booking.Statement.{statement}
 use Rattle.desk_core.proofs.make_booking.Tie as tie
@@ -40,7 +41,7 @@ book-refusal-requires : tie.Need-book-refusal-requires
 book-refusal-requires c κs = let a = c .before .before .before .before .before .before .before .before .before .args in
     let l = links-of (a .links) in
     let t = lent (a .head) (now (a .events)) (now (a .free)) (now (a .book)) in
-    places-fit (a .links) t (fine l t true (sym (c .before .before .table-refusal .ensures) ∙ c .before .if1 .left))
+    places-fit l t (fine l t true (sym (c .before .before .table-refusal .ensures) ∙ c .before .if1 .left))
 
 refused-requires-2 : tie.Need-refused-requires-2
 refused-requires-2 c κs = search needs

@@ -5,6 +5,7 @@ use Rattle.units.specs.LinkTables.{links-of}
 use Rattle.rules.specs.Tables.{lent}
 use Rattle.orders.specs.Ordered.{ordered, by-reading}
 use Rattle.orders.proofs.Answering.{unread}
+use Rattle.histories.proofs.Exits.{gives-of}
 use borrow.Author.Needs.{needs}
 use Rattle.orders.proofs.answer_order.Statement.{statement}
 use Rattle.orders.proofs.answer_order.Tie as tie
@@ -38,7 +39,7 @@ unfolding ordered
 returns c = let a = c .before .before .before .before .before .before .before .before .before .before .before .before .before .before .before .before .before .before .args in
     let l = links-of (a .links) in
     let t = lent (a .head) (now (a .events)) (now (a .free)) (now (a .book)) in
-    c .before .before .before .before .before .before .answer-read .ensures ∙ sym (ap (by-reading l t) (sym (c .before .before .before .before .before .before .before .before .before .before .before .before .before .read-order .ensures) ∙ c .before .before .before .before .before .before .before .before .before .before .before .order .given .1))
+    gives-of (by-reading l t) (sym (sym (c .before .before .before .before .before .before .before .before .before .before .before .before .before .read-order .ensures) ∙ c .before .before .before .before .before .before .before .before .before .before .before .order .given .1)) (c .before .before .before .before .before .before .answer-read .ensures)
 
 returns-2 : tie.Need-returns-2
 unfolding ordered

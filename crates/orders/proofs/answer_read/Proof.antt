@@ -4,6 +4,7 @@ use denote.Ref.{now}
 use Rattle.units.specs.LinkTables.{links-of}
 use Rattle.rules.specs.Tables.{lent}
 use Rattle.orders.specs.Ordered.{answered}
+use Rattle.histories.proofs.Exits.{gives-of}
 use borrow.Author.Needs.{needs}
 use Rattle.orders.proofs.answer_read.Statement.{statement}
 use Rattle.orders.proofs.answer_read.Tie as tie
@@ -45,7 +46,7 @@ returns : tie.Need-returns
 returns c = let a = c .before .before .before .before .before .before .before .before .before .before .before .before .before .before .before .before .args in
     let l = links-of (a .links) in
     let t = lent (a .head) (now (a .events)) (now (a .free)) (now (a .book)) in
-    c .before .before .before .before .before .before .answer-booking .ensures ∙ sym (ap (answered l t) (c .before .before .before .before .before .before .before .before .before .before .before .order .given .1))
+    gives-of (answered l t) (sym (c .before .before .before .before .before .before .before .before .before .before .before .order .given .1)) (c .before .before .before .before .before .before .answer-booking .ensures)
 
 same-length-4 : tie.Need-same-length-4
 same-length-4 c = search needs
@@ -60,7 +61,7 @@ returns-2 : tie.Need-returns-2
 returns-2 c = let a = c .before .before .before .before .before .before .before .before .before .before .before .before .before .before .before .before .args in
     let l = links-of (a .links) in
     let t = lent (a .head) (now (a .events)) (now (a .free)) (now (a .book)) in
-    c .before .before .before .before .before .before .answer-cancel .ensures ∙ sym (ap (answered l t) (c .before .before .before .before .before .before .before .before .before .before .before .order2 .given .1))
+    gives-of (answered l t) (sym (c .before .before .before .before .before .before .before .before .before .before .before .order2 .given .1)) (c .before .before .before .before .before .before .answer-cancel .ensures)
 
 same-length-7 : tie.Need-same-length-7
 same-length-7 c = search needs
@@ -75,7 +76,7 @@ returns-3 : tie.Need-returns-3
 returns-3 c = let a = c .before .before .before .before .before .before .before .before .before .before .before .before .before .before .before .before .args in
     let l = links-of (a .links) in
     let t = lent (a .head) (now (a .events)) (now (a .free)) (now (a .book)) in
-    c .before .before .before .before .before .before .answer-clock .ensures ∙ sym (ap (answered l t) (c .before .before .before .before .before .before .before .before .before .before .before .order3 .given .1))
+    gives-of (answered l t) (sym (c .before .before .before .before .before .before .before .before .before .before .before .order3 .given .1)) (c .before .before .before .before .before .before .answer-clock .ensures)
 
 same-length-10 : tie.Need-same-length-10
 same-length-10 c = search needs
@@ -90,7 +91,7 @@ returns-4 : tie.Need-returns-4
 returns-4 c = let a = c .before .before .before .before .before .before .before .before .before .before .args in
     let l = links-of (a .links) in
     let t = lent (a .head) (now (a .events)) (now (a .free)) (now (a .book)) in
-    c .answer-offer .ensures ∙ sym (ap (answered l t) (c .before .before .before .before .before .order4 .given .1))
+    gives-of (answered l t) (sym (c .before .before .before .before .before .order4 .given .1)) (c .answer-offer .ensures)
 
 pub answer-read-spec : {M : Type 1} → statement M
 answer-read-spec =

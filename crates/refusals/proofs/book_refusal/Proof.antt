@@ -7,7 +7,8 @@ use denote.Ref.{now}
 use mathlib.Core.List.{[]}
 use Rattle.rules.specs.Calls.{Ask, checked, number-ok, first-refusal, own-checks}
 use Rattle.rules.specs.Tables.{held-by}
-use Rattle.refusals.proofs.OwnChecks.{stopped-as-offer, number-stands, book-full, booking-passes, stands-found}
+use Rattle.rules.proofs.Standing.{stands-found}
+use Rattle.refusals.proofs.OwnChecks.{stopped-as-offer, number-stands, book-full, booking-passes}
 use Rattle.refusals.proofs.book_refusal.Statement.{statement}
 use Rattle.refusals.proofs.book_refusal.Tie as tie
 

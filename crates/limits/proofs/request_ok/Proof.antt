@@ -2,8 +2,8 @@
 use mathlib.Core.Path.{sym, _∙_}
 use borrow.Author.Needs.{needs}
 use borrow.Author.Tests.{lt-leb, le-leb, not-true, not-false}
-use Rattle.refusals.proofs.request_ok.Statement.{statement}
-use Rattle.refusals.proofs.request_ok.Tie as tie
+use Rattle.limits.proofs.request_ok.Statement.{statement}
+use Rattle.limits.proofs.request_ok.Tie as tie
 
 ends-ok-requires : tie.Need-ends-ok-requires
 ends-ok-requires c κs = search needs

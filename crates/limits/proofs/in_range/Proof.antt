@@ -1,7 +1,7 @@
 -- `in_range` meets its contract: the tests are the definition's.
 use borrow.Author.Tests.{lt-leb, le-leb}
-use Rattle.soundness.proofs.in_range.Statement.{statement}
-use Rattle.soundness.proofs.in_range.Tie as tie
+use Rattle.limits.proofs.in_range.Statement.{statement}
+use Rattle.limits.proofs.in_range.Tie as tie
 
 returns : tie.Need-returns
 returns c = simp (lt-leb _ _ (c .if1 .taken))

@@ -1,7 +1,7 @@
 -- `ends_ok` meets its contract: the tests are the definition's.
 use borrow.Author.Tests.{lt-leb, le-leb, eq-eqb, ne-eqb}
-use Rattle.soundness.proofs.ends_ok.Statement.{statement}
-use Rattle.soundness.proofs.ends_ok.Tie as tie
+use Rattle.limits.proofs.ends_ok.Statement.{statement}
+use Rattle.limits.proofs.ends_ok.Tie as tie
 
 returns : tie.Need-returns
 returns c = simp (lt-leb _ _ (c .if1 .taken))

@@ -1,7 +1,7 @@
 -- `sized` meets its contract: the tests are the definition's.
 use borrow.Author.Tests.{lt-leb, le-leb, eq-eqb, ne-eqb}
-use Rattle.refusals.proofs.sized.Statement.{statement}
-use Rattle.refusals.proofs.sized.Tie as tie
+use Rattle.limits.proofs.sized.Statement.{statement}
+use Rattle.limits.proofs.sized.Tie as tie
 
 returns : tie.Need-returns
 returns c = simp (lt-leb _ _ (c .if1 .taken))

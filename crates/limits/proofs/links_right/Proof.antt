@@ -11,8 +11,8 @@ use Rattle.units.specs.Lists.{count-from, all}
 use Rattle.units.specs.declared.LinkTable.{LinkTable}
 use Rattle.rules.specs.Tables.{link-ok, links-ok}
 use Rattle.units.specs.LinkTables.{link-at, links-of}
-use Rattle.soundness.proofs.links_right.Statement.{statement}
-use Rattle.soundness.proofs.links_right.Tie as tie
+use Rattle.limits.proofs.links_right.Statement.{statement}
+use Rattle.limits.proofs.links_right.Tie as tie
 
 abbrev Inv-loop : tie.InvT-loop
 Inv-loop links count link₀ link = (link ≤ links .count) × (links-ok (links-of links) ≡ all link-ok (map (link-at links) (count-from link (links .count - link))))
