@@ -6,7 +6,6 @@ use choice::StartChoice;
 use choice::choose;
 use choice::choose_event;
 use choice::path_at;
-use units::EVENTS;
 use units::Minute;
 use units::clear_from;
 use units::end_minute;
@@ -68,7 +67,7 @@ fn run_end(search: Search, events: &[u32], free: &[u32], start: Minute, latest: 
     let mut end = end_minute(start, search.span).0;
     let last_end = end_minute(latest, search.span).0;
     let mut place = 0;
-    while place < EVENTS {
+    while place < events.len() {
         let event = events[place];
         if last_end <= event {
             return latest.0 + 1;

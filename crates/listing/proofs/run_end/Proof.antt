@@ -5,7 +5,6 @@ use mathlib.Core.Logic.{⊎-elim}
 use Prim.Native.Nat.{_-_, _+_, _≤_}
 use native.Mathlib.Omega.{arith}
 use borrow.Author.Tests.{not-true, not-false}
-use Rattle.units.specs.Limits.{most-events}
 use Rattle.path_search.specs.Answer.{graph}
 use Rattle.choice.specs.Answer.{possible-for}
 use Rattle.choice.proofs.Exits.{askable-at}
@@ -16,10 +15,10 @@ use Rattle.listing.proofs.run_end.Tie as tie
 -- the loop knows start by the end of its span
 abbrev Inv-loop : tie.InvT-loop
 Inv-loop search events free latest end₀ last-end place₀ end place =
-    (place ≤ most-events) × RunTo (possible-for search events free) events (search .span .0) (end₀ - search .span .0) (latest .0) end place
+    (place ≤ length events) × RunTo (possible-for search events free) events (search .span .0) (end₀ - search .span .0) (latest .0) end place
 
 abbrev μ-loop : tie.MeasureT-loop
-μ-loop search events free latest end₀ last-end place₀ end place = most-events - place
+μ-loop search events free latest end₀ last-end place₀ end place = length events - place
 
 -- the function's entry, from the loop's head
 abbrev entry : tie.At-loop Inv-loop μ-loop → tie.Start Inv-loop μ-loop
