@@ -13,7 +13,7 @@ ghost use mathlib.Core.Path.{_≡_};
 ghost use mathlib.Core.Bool.{true, false};
 ghost use Prim.Native.Nat.{suc, _≤_};
 ghost use lib.ListN.{length};
-ghost use Rattle.units.specs.Limits.{list-size};
+ghost use Rattle.units.specs.Limits.{most-ranges, list-size};
 ghost use Rattle.choice.specs.Answer.{possible-for, choice-for, Askable};
 ghost use Rattle.listing.specs.Ranges.{ranges-for, list-table, start-or};
 ghost use Rattle.listing.specs.Right.{RunEnd};
@@ -93,7 +93,8 @@ pub fn list_ranges(
     latest: Minute,
     list: &mut [u32],
 ) -> u32
-    requires { ⌜ Askable search (now events) (now free) (low .0) (latest .0) ⌝ ∗ ⌜ length (now list) ≡ list-size ⌝ }
+    requires { ⌜ Askable search (now events) (now free) (low .0) (latest .0) ⌝
+        ∗ ⌜ length (now events) ≤ most-ranges ⌝ ∗ ⌜ length (now list) ≡ list-size ⌝ }
     ensures { λ r. ⌜ (r ≡ length (ranges-for search (now (events .entry)) (now (free .entry)) (low .0) (latest .0)))
         × (now (list .exit) ≡ list-table (ranges-for search (now (events .entry)) (now (free .entry)) (low .0) (latest .0))) ⌝ }
 {

@@ -4,6 +4,7 @@ use mathlib.Core.Path.{_≡_, refl, sym, _∙_, subst}
 use mathlib.Core.Logic.{⊎-elim}
 use Prim.Native.Nat.{_-_, _+_, _≤_}
 use native.Mathlib.Omega.{arith}
+use lib.ListN.{length}
 use borrow.Author.Tests.{not-true, not-false}
 use Rattle.path_search.specs.Answer.{graph}
 use Rattle.choice.specs.Answer.{possible-for}
@@ -121,7 +122,7 @@ returns-3 c =
     let s = entry at in
     let a = s .args in
     let p = s .pre .0 in
-    run-left (graph (a .search .ends)) (a .events .now) (a .free .now) (a .search .bandwidth .0) (a .search .span .0) (a .search .source) (a .search .destination) (p .clock) (p .times) (p .are-events) (p .lasts) (a .start .0) (a .latest .0) (p .not-past) (at .loop .end) (at .loop .place) (run-here at) (omega (arith, p .sized .events-sized))
+    run-left (graph (a .search .ends)) (a .events .now) (a .free .now) (a .search .bandwidth .0) (a .search .span .0) (a .search .source) (a .search .destination) (p .clock) (p .times) (p .are-events) (p .lasts) (a .start .0) (a .latest .0) (p .not-past) (at .loop .end) (at .loop .place) (run-here at) (omega arith)
 
 pub run-end-spec : {M : Type 1} → statement M
 run-end-spec =
