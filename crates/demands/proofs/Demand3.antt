@@ -8,7 +8,7 @@ use Prim.Native.Nat.{ℕ, _≤_, _<_}
 use native.Mathlib.Omega.{arith}
 use lib.ListN.{length}
 use Rattle.units.specs.declared.Link.{Link}
-use Rattle.units.specs.Limits.{most-links, last-shown}
+use Rattle.units.specs.Limits.{most-links, most-events, last-shown}
 use Rattle.units.specs.Lists.{Within}
 use Rattle.units.proofs.Tests.{_&_, less-than, in-range}
 use Rattle.free_table.specs.Figures.{kept}
