@@ -10,7 +10,7 @@ use Rattle.units.specs.declared.Link.{Link}
 use Rattle.units.specs.declared.Head.{Head}
 use Rattle.units.specs.declared.Minute.{Minute}
 use Rattle.units.specs.declared.Request.{Request}
-use Rattle.units.specs.Limits.{most-links, most-bookings, most-hops, place-size}
+use Rattle.units.specs.Limits.{most-links, most-bookings, most-events, most-hops, place-size}
 use Rattle.units.specs.Lists.{count-from}
 use Rattle.timeline.specs.EventTable.{only-clock}
 use Rattle.timeline.specs.Insertion.{Room}
@@ -50,7 +50,7 @@ head-with clock links bookings = record { clock = record { 0 = clock }; links = 
 -- ---- none
 
 module _ (columns : LinkTable) (few : columns .count ≤ most-links) (given : columns .count ≤ length (columns .capacity)) where
-  pub reset-tables : {es t book : List ℕ} → es ≡ only-clock 0 → t ≡ all-free (columns .count) (columns .capacity) → book ≡ replicate (most-bookings * place-size) 0
+  pub reset-tables : {es t book : List ℕ} → es ≡ only-clock most-events 0 → t ≡ all-free (most-events * most-links) (columns .count) (columns .capacity) → book ≡ replicate (most-bookings * place-size) 0
       → lent (head-with 0 (columns .count) 0) es t book ≡ tables (links-of columns) empty
   unfolding count-from flatten plain-book.by-number
   reset-tables {es} {t} a b c =

@@ -8,7 +8,6 @@ use native.Mathlib.Omega.{arith}
 use borrow.Author.Tests.{lt-ltb, le-ltb}
 use lib.Dec.{ltb}
 use lib.ListN.{length, getD, length-append, List·getD-eq-default}
-use Rattle.units.specs.Limits.{most-events}
 use Rattle.units.specs.Lists.{padded}
 use Rattle.units.proofs.Tests.{Side, below, above, side}
 use Rattle.timeline.specs.Events.{events}
@@ -69,7 +68,7 @@ askable-part a from until early late = record {
 pub askable-at : {s : Search} {es t : List ℕ} {low latest : ℕ} → Askable s es t low latest → (m : ℕ) → low ≤ m → m ≤ latest → Askable s es t m m
 askable-at a m early late = askable-part a m m early late
 
-module _ (g : Graph) (es t : List ℕ) (bandwidth duration from to low latest c : ℕ) (ts : List ℕ) (shown : es ≡ padded most-events (events c ts)) (early : c ≤ low) where
+module _ (g : Graph) (es t : List ℕ) (bandwidth duration from to low latest c : ℕ) (ts : List ℕ) (shown : es ≡ padded (length es) (events c ts)) (early : c ≤ low) where
   abbrev carried : ℕ → ℕ → Bool
   carried = carries (kept es t) bandwidth duration
 

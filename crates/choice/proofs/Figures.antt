@@ -5,7 +5,7 @@ use mathlib.Core.List.{List}
 use mathlib.Core.Bool.{Bool}
 use Prim.Native.Nat.{ℕ, suc, _-_, _≤_, _<_}
 use native.Mathlib.Omega.{arith}
-use Rattle.units.specs.Limits.{most-links, most-events}
+use Rattle.units.specs.Limits.{most-links}
 use Rattle.units.specs.Lists.{padded}
 use Rattle.units.specs.Search.{Found, at, nothing, firstFrom}
 use Rattle.units.proofs.Search.{IsFirst, firstFrom-found}
@@ -36,16 +36,16 @@ choose-agree g h p q from to low latest same =
         ap (grant-at m) (routes m (r .low) (omega arith))
     by nothing e = refl
 
-module _ (links : ℕ) (f : ℕ → ℕ → ℕ) (small : links ≤ most-links) (c : ℕ) (ts : List ℕ) (s : (l : ℕ) → l < links → ChangesAt ts (f l)) (bandwidth duration : ℕ) where
+module _ (places links : ℕ) (f : ℕ → ℕ → ℕ) (small : links ≤ most-links) (c : ℕ) (ts : List ℕ) (s : (l : ℕ) → l < links → ChangesAt ts (f l)) (bandwidth duration : ℕ) where
   -- the figures that the tables keep
   abbrev shown : ℕ → ℕ → ℕ
-  shown = kept (padded most-events (events c ts)) (table links f (events c ts))
+  shown = kept (padded places (events c ts)) (table places links f (events c ts))
 
   -- from the clock on, a link carries a span by the tables if and only if it does by the figures
   pub carries-shown : (m l : ℕ) → c ≤ m → l < links → carries shown bandwidth duration m l ≡ carries f bandwidth duration m l
   carries-shown m l h k =
       allFrom-agree (λ j. suffices bandwidth (shown l j)) (λ j. suffices bandwidth (f l j)) m _
-      (λ j a b. ap (suffices bandwidth) (kept-figure links f small c ts l j (s l k) k (omega arith)))
+      (λ j a b. ap (suffices bandwidth) (kept-figure links f small places c ts l j (s l k) k (omega arith)))
 
   -- the choice by the tables is the choice by the figures
   pub choose-shown : (g : Graph) → g .count ≡ links → (from to low latest : ℕ) → c ≤ low

@@ -5,8 +5,7 @@ use mathlib.Core.List.{List}
 use mathlib.Core.Bool.{Bool, true}
 use Prim.Native.Nat.{ℕ, _+_, _-_, _≤_, _<_}
 use native.Mathlib.Omega.{arith}
-use lib.ListN.{getD}
-use Rattle.units.specs.Limits.{most-events}
+use lib.ListN.{length, getD}
 use Rattle.units.specs.Lists.{padded}
 use Rattle.units.specs.Search.{allFrom}
 use Rattle.units.proofs.Tests.{at-most}
@@ -39,9 +38,9 @@ module _ (figure : ℕ → ℕ → ℕ) (bandwidth duration : ℕ) where
       (λ j a b. at-most bandwidth (figure l j) .1 (span-on (figure l) (λ x. bandwidth ≤ x) ts s m k duration h some q (λ i a b. at-most bandwidth (figure l i) .0 (allFrom-all (fits l) m duration e i a b)) j a b))
 
 -- the same of the figures that lent tables keep; and a place of the event table has its event, zero behind the last one
-module _ (c : ℕ) (ts es t : List ℕ) (shown : es ≡ padded most-events (events c ts)) (bandwidth duration : ℕ) where
+module _ (c : ℕ) (ts es t : List ℕ) (shown : es ≡ padded (length es) (events c ts)) (bandwidth duration : ℕ) where
   kept-steady : (l : ℕ) → ChangesAt ts (kept es t l)
-  kept-steady l = subst (λ x. ChangesAt ts (kept x t l)) (sym shown) (kept-changes c ts t l)
+  kept-steady l = subst (λ x. ChangesAt ts (kept x t l)) (sym shown) (kept-changes (length es) c ts t l)
 
   pub kept-back : (k m l : ℕ) → k ≤ m → NoneBetween ts k m → carries (kept es t) bandwidth duration m l ≡ true → carries (kept es t) bandwidth duration k l ≡ true
   kept-back k m l = carries-back (kept es t) bandwidth duration ts l (kept-steady l) k m
@@ -51,12 +50,12 @@ module _ (c : ℕ) (ts es t : List ℕ) (shown : es ≡ padded most-events (even
   kept-on m k l = carries-on (kept es t) bandwidth duration ts l (kept-steady l) m k
 
   pub event-at : (i : ℕ) → getD es i 0 ≡ getD (events c ts) i 0
-  event-at i = ap (λ x. getD x i 0) shown ∙ padded-get most-events (events c ts) i
+  event-at i = ap (λ x. getD x i 0) shown ∙ padded-get (length es) (events c ts) i
 
 -- the rows of a span have the bandwidth if and only if the span's minutes have
-pub enough-span-carries : (c : ℕ) (ts es t : List ℕ) → es ≡ padded most-events (events c ts) → (l bandwidth start d : ℕ) → c ≤ start → 1 ≤ d
+pub enough-span-carries : (c : ℕ) (ts es t : List ℕ) → es ≡ padded (length es) (events c ts) → (l bandwidth start d : ℕ) → c ≤ start → 1 ≤ d
     → enough-span es start (start + d) l bandwidth t ≡ carries (kept es t) bandwidth d start l
 enough-span-carries c ts es t shown l bandwidth start d h some =
     let e : start + d - start ≡ d = omega arith in
     subst (λ x. enough-span x start (start + d) l bandwidth t ≡ carries (kept x t) bandwidth d start l) (sym shown)
-    (enough-span-kept c ts t l bandwidth start (start + d) h (omega arith) ∙ ap (λ n. allFrom start n (λ k. suffices bandwidth (kept (padded most-events (events c ts)) t l k))) e)
+    (enough-span-kept (length es) c ts t l bandwidth start (start + d) h (omega arith) ∙ ap (λ n. allFrom start n (λ k. suffices bandwidth (kept (padded (length es) (events c ts)) t l k))) e)

@@ -4,8 +4,9 @@ use mathlib.Core.List.{List, []}
 use mathlib.Core.Bool.{Bool}
 use Prim.Native.Nat.{ℕ, _≤_}
 use lib.Dec.{leb}
+use lib.ListN.{length}
 use Rattle.units.specs.declared.Minute.{Minute}
-use Rattle.units.specs.Limits.{most-events, last-shown}
+use Rattle.units.specs.Limits.{last-shown}
 use Rattle.units.specs.Lists.{padded}
 use Rattle.units.specs.Refusals as refusals
 use Rattle.units.specs.Spans.{release}
@@ -51,7 +52,7 @@ pub record Askable (s : Search) (es t : List ℕ) (low latest : ℕ) : Type 0 wh
   pub sized : TablesSized es t
   pub clock : ℕ
   pub times : List ℕ
-  pub are-events : es ≡ padded most-events (events clock times)
+  pub are-events : es ≡ padded (length es) (events clock times)
   pub not-past : clock ≤ low
   pub lasts : 1 ≤ s .span .0
   pub in-time : release latest (s .span .0) ≤ last-shown

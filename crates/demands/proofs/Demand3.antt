@@ -8,7 +8,7 @@ use Prim.Native.Nat.{ℕ, _≤_, _<_}
 use native.Mathlib.Omega.{arith}
 use lib.ListN.{length}
 use Rattle.units.specs.declared.Link.{Link}
-use Rattle.units.specs.Limits.{most-links, last-shown}
+use Rattle.units.specs.Limits.{most-links, most-events, last-shown}
 use Rattle.units.specs.Lists.{Within}
 use Rattle.units.proofs.Tests.{_&_, less-than, in-range}
 use Rattle.free_table.specs.Figures.{kept}
@@ -49,7 +49,7 @@ same-tables links p q o a = ∥∥₁-elim (a .1) (tables-set (tables links p) (
 -- the figure that the tables of a plain book keep is what is free
 pub kept-free : (links : List Link) (p : Plain) → length links ≤ most-links → (l m : ℕ) → l < length links → p .clock ≤ m → kept (tables links p .events) (tables links p .free) l m ≡ free links p l m
 unfolding tables
-kept-free links p small l m h k = kept-figure (length links) (free links p) small (p .clock) (all-times p) l m (free-changes links p l) h k
+kept-free links p small l m h k = kept-figure (length links) (free links p) small most-events (p .clock) (all-times p) l m (free-changes links p l) h k
 
 shown : (links : List Link) (p : Plain) (l m : ℕ) → l < length links → p .clock ≤ m → m ≤ last-shown → answer links p (show l m) ≡ shows (free links p l m)
 unfolding kinds.answer

@@ -8,11 +8,12 @@ use lib.ListN.{length, take, replicate}
 use lib.Seq.{take-append-seam}
 use Rattle.units.specs.declared.Minute.{Minute}
 use Rattle.units.specs.declared.Request.{Request}
-use Rattle.units.specs.Limits.{most-links, most-hops, most-bookings, last-number}
-use Rattle.units.specs.Lists.{Within}
+use Rattle.units.specs.Limits.{most-links, most-hops, most-bookings, most-events, last-number}
+use Rattle.units.specs.Lists.{padded, Within}
 use Rattle.units.specs.Spans.{span-of}
 use Rattle.units.proofs.Tests.{in-range}
 use Rattle.free_table.specs.Figures.{kept}
+use Rattle.free_table.specs.Looking.{TablesSized}
 use Rattle.free_table.specs.Taking as table-sizes
 use Rattle.free_table.proofs.Figures.{kept-figure}
 use Rattle.path_search.specs.declared.Path.{Path}
@@ -31,7 +32,7 @@ use Rattle.listing.proofs.Laws.{ranges-agree}
 use Rattle.units.specs.declared.LinkTable.{LinkTable}
 use Rattle.rules.specs.Plain.{Booking, terms, graph, free, carries, low}
 use Rattle.rules.specs.Calls.{Ask, starts, refuse, best, every, stands, number-ok, request-ok, own-checks, chosen as desk-chosen}
-use Rattle.rules.specs.Tables.{Tables, held, Fine}
+use Rattle.rules.specs.Tables.{Tables, events-of, held, Fine}
 use Rattle.units.specs.LinkTables.{links-of}
 use Rattle.desk_core.specs.Lent.{ends-of, search-of}
 use Rattle.desk_core.specs.Lent as words
@@ -55,14 +56,17 @@ module _ (links : LinkTable) (t : Tables) (f : Fine (links-of links) t) where
     to-node = λ l h. rw (← (to-column links l h)) (link-right (links-of links) (book-obeys f .links-right) l (rw (links-count links) h) .to-right);
   }
 
+  tables-sized : TablesSized (t .events) (t .free)
+  tables-sized = record { some = omega (arith, sizes f .events-right); free-sized = omega (arith, sizes f .events-right, sizes f .free-right) }
+
   module _ (r : Request) (q : RequestRight r) where
     pub best-asks : Askable (search-of (t .head) links r) (t .events) (t .free) (max (r .earliest .0) (t .head .clock .0)) (r .latest .0)
     best-asks = record {
       in-range = ends-in-range;
-      sized = record { events-sized = sizes f .events-right; free-sized = sizes f .free-right };
+      sized = tables-sized;
       clock = t .head .clock .0;
       times = all-times (held t);
-      are-events = events-are f;
+      are-events = events-are f ∙ ap (λ n. padded n (events-of (held t))) (sym (sizes f .events-right));
       not-past = omega arith;
       lasts = q .duration-right .0;
       in-time = omega (arith, q .duration-right .1, q .latest-right);
@@ -89,7 +93,7 @@ module _ (links : LinkTable) (t : Tables) (f : Fine (links-of links) t) where
         usable-same : (m l : ℕ) → t .head .clock .0 ≤ m → l < length (links-of links) → answers.carried (search-of (t .head) links r) (t .events) (t .free) m l ≡ carries (links-of links) (held t) r m l
         usable-same m l a h =
             ap₂ (λ es fr. answers.carried (search-of (t .head) links r) es fr m l) (events-are f) (free-are f)
-            ∙ carries-shown (length (links-of links)) (free (links-of links) (held t)) (sizes f .links-right .1) (t .head .clock .0) (all-times (held t)) (λ k j. free-changes (links-of links) (held t) k) (r .bandwidth .0) (span-of (t .head) (r .duration .0)) m l a h
+            ∙ carries-shown most-events (length (links-of links)) (free (links-of links) (held t)) (sizes f .links-right .1) (t .head .clock .0) (all-times (held t)) (λ k j. free-changes (links-of links) (held t) k) (r .bandwidth .0) (span-of (t .head) (r .duration .0)) m l a h
 
     pub same-choice : by-tables ≡ by-book
     same-choice =
@@ -169,9 +173,9 @@ module _ (links : LinkTable) (t : Tables) (f : Fine (links-of links) t) where
 
   -- a link of the list has a figure in every row, and it is what the plain book leaves free
   pub figure-asks : (l : ℕ) → l < links .count → table-sizes.Sized (t .events) (t .free) l
-  figure-asks l h = record { events-sized = sizes f .events-right; free-sized = sizes f .free-right; column = let f = few-links in omega arith }
+  figure-asks l h = record { some = tables-sized .some; free-sized = tables-sized .free-sized; column = let f = few-links in omega arith }
 
   pub figure-is : (l m : ℕ) → l < links .count → t .head .clock .0 ≤ m → kept (t .events) (t .free) l m ≡ free (links-of links) (held t) l m
   figure-is l m h k =
       rw (events-are f, free-are f)
-      (kept-figure (length (links-of links)) (free (links-of links) (held t)) (sizes f .links-right .1) (t .head .clock .0) (all-times (held t)) l m (free-changes (links-of links) (held t) l) (rw (links-count links) h) k)
+      (kept-figure (length (links-of links)) (free (links-of links) (held t)) (sizes f .links-right .1) most-events (t .head .clock .0) (all-times (held t)) l m (free-changes (links-of links) (held t) l) (rw (links-count links) h) k)

@@ -22,7 +22,7 @@ ghost use Rattle.free_table.specs.Looking.{enough-rows, enough-span, Mar
 #[no_mangle]
 pub extern "C" fn reset_free(free: &mut [u32], capacities: &[u32], links: usize)
     requires { ⌜ Capacities (now free) (now capacities) links ⌝ }
-    ensures { λ _. ⌜ now (free .exit) ≡ all-free links (now (capacities .entry)) ⌝ }
+    ensures { λ _. ⌜ now (free .exit) ≡ all-free (length (now (free .entry))) links (now (capacities .entry)) ⌝ }
 {
     let mut link = 0;
     while link < links {

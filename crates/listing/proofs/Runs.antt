@@ -8,7 +8,6 @@ use native.Mathlib.Nat.{le-refl}
 use native.Mathlib.Decide.{ℕ-discrete, decLt}
 use native.Mathlib.Omega.{arith}
 use lib.ListN.{length, getD, length-append}
-use Rattle.units.specs.Limits.{most-events}
 use Rattle.units.specs.Lists.{padded}
 use Rattle.units.proofs.Tests.{member-tells}
 use Rattle.timeline.specs.Events.{later, events}
@@ -32,7 +31,7 @@ pub record RunTo (test : ℕ → Bool) (es : List ℕ) (duration start latest en
   pub passes : (m : ℕ) → start ≤ m → m ≤ last → test m ≡ true
   pub passed : (j : ℕ) → j < i → getD es j 0 < end
 
-module _ (g : Graph) (es t : List ℕ) (bandwidth duration from to c : ℕ) (ts : List ℕ) (shown : es ≡ padded most-events (events c ts)) (some : 1 ≤ duration) where
+module _ (g : Graph) (es t : List ℕ) (bandwidth duration from to c : ℕ) (ts : List ℕ) (shown : es ≡ padded (length es) (events c ts)) (some : 1 ≤ duration) where
   abbrev carried : ℕ → ℕ → Bool
   carried = carries (kept es t) bandwidth duration
 

@@ -6,7 +6,6 @@ use choice::StartChoice;
 use choice::choose;
 use choice::choose_event;
 use choice::path_at;
-use units::EVENTS;
 use units::Minute;
 use units::clear_from;
 use units::end_minute;
@@ -14,7 +13,7 @@ ghost use mathlib.Core.Path.{_≡_};
 ghost use mathlib.Core.Bool.{true, false};
 ghost use Prim.Native.Nat.{suc, _≤_};
 ghost use lib.ListN.{length};
-ghost use Rattle.units.specs.Limits.{list-size};
+ghost use Rattle.units.specs.Limits.{most-ranges, list-size};
 ghost use Rattle.choice.specs.Answer.{possible-for, choice-for, Askable};
 ghost use Rattle.listing.specs.Ranges.{ranges-for, list-table, start-or};
 ghost use Rattle.listing.specs.Right.{RunEnd};
@@ -68,7 +67,7 @@ fn run_end(search: Search, events: &[u32], free: &[u32], start: Minute, latest: 
     let mut end = end_minute(start, search.span).0;
     let last_end = end_minute(latest, search.span).0;
     let mut place = 0;
-    while place < EVENTS {
+    while place < events.len() {
         let event = events[place];
         if last_end <= event {
             return latest.0 + 1;
@@ -94,7 +93,8 @@ pub fn list_ranges(
     latest: Minute,
     list: &mut [u32],
 ) -> u32
-    requires { ⌜ Askable search (now events) (now free) (low .0) (latest .0) ⌝ ∗ ⌜ length (now list) ≡ list-size ⌝ }
+    requires { ⌜ Askable search (now events) (now free) (low .0) (latest .0) ⌝
+        ∗ ⌜ length (now events) ≤ most-ranges ⌝ ∗ ⌜ length (now list) ≡ list-size ⌝ }
     ensures { λ r. ⌜ (r ≡ length (ranges-for search (now (events .entry)) (now (free .entry)) (low .0) (latest .0)))
         × (now (list .exit) ≡ list-table (ranges-for search (now (events .entry)) (now (free .entry)) (low .0) (latest .0))) ⌝ }
 {

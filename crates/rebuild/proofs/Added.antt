@@ -84,11 +84,11 @@ less-along-is f w start end (l ∷ ls) d j m =
 module _ (links : ℕ) (small : links ≤ most-links) (c : ℕ) (ts : List ℕ) (few : length (events c ts) ≤ most-events) (start end w : ℕ) (in-order : start ≤ end)
     (from : List·Memᴰ start ts) (to : List·Memᴰ end ts) where
   less-path-table : (f : ℕ → ℕ → ℕ) (path : List ℕ) → All (λ l. l < most-links) path
-      → less-path (padded most-events (events c ts)) start end w path (table links f (events c ts)) ≡ table links (less-along f w start end path) (events c ts)
+      → less-path (padded most-events (events c ts)) start end w path (table most-events links f (events c ts)) ≡ table most-events links (less-along f w start end path) (events c ts)
   unfolding less-path less-along
   less-path-table f [] a = refl
   less-path-table f (l ∷ ls) a =
-      ap (less-path (padded most-events (events c ts)) start end w ls) (less-span-table links f small c ts few start end l w (a .0) in-order from to)
+      ap (less-path (padded most-events (events c ts)) start end w ls) (less-span-table most-events links f small c ts few start end l w (a .0) in-order from to)
       ∙ less-path-table (less f l w start end) ls (a .1)
 
 -- ---- looking along a path
@@ -121,16 +121,16 @@ module _ (links : List Link) (p : Plain) (b : Booking) (small : length links ≤
 
   -- the tables have room for its two events
   room-left : Room (event-table p) (free-table links p) 2
-  room-left = room-of-events (p .clock) (all-times p) (free-table links p) 2 (length-table (length links) (free links p) small (events-of p) (omega (arith, events-few p))) (omega (arith, events-few p))
+  room-left = room-of-events most-events (p .clock) (all-times p) (free-table links p) 2 (length-table (length links) (free links p) small most-events (events-of p) (omega (arith, events-few p))) (omega (arith, events-few p))
 
   -- the events with its start and its end
   events-added : with-span (b .grant .start) (until p b) (event-table p) ≡ event-table (put-in b p)
   unfolding flatten
   events-added = with-span-events (p .clock) (b .grant .start) (until p b) (all-times p) most-events few
 
-  rows-added : with-span-rows most-links (event-table p) (b .grant .start) (until p b) (free-table links p) ≡ table (length links) (free links p) (events-of (put-in b p))
+  rows-added : with-span-rows most-links (event-table p) (b .grant .start) (until p b) (free-table links p) ≡ table most-events (length links) (free links p) (events-of (put-in b p))
   unfolding flatten
-  rows-added = table-with-span (length links) (free links p) small (p .clock) (all-times p) (λ l h. free-changes links p l) (b .grant .start) (until p b) few
+  rows-added = table-with-span most-events (length links) (free links p) small (p .clock) (all-times p) (λ l h. free-changes links p l) (b .grant .start) (until p b) few
 
   module _ (r : BookingRight links p b) where
     inside : All (λ l. l < length links) (b .grant .path)
@@ -143,7 +143,7 @@ module _ (links : List Link) (p : Plain) (b : Booking) (small : length links ≤
     free-added =
         ap₂ (λ (es t : List ℕ). less-path es (b .grant .start) (until p b) (b .terms .bandwidth) (b .grant .path) t) events-added rows-added
         ∙ less-path-table (length links) small (p .clock) (b .grant .start ∷ until p b ∷ all-times p) few (b .grant .start) (until p b) (b .terms .bandwidth) (omega arith) (List·Memᴰ·head refl) (List·Memᴰ·tail (List·Memᴰ·head refl)) (free links p) (b .grant .path) (all-map (λ l. l < length links) (λ l. l < most-links) (λ l h. omega arith) (b .grant .path) inside)
-        ∙ ap (λ f. table (length links) f (events-of (put-in b p))) figures
+        ∙ ap (λ f. table most-events (length links) f (events-of (put-in b p))) figures
       where
         figures : less-along (free links p) (b .terms .bandwidth) (b .grant .start) (until p b) (b .grant .path) ≡ free links (put-in b p)
         figures = fun-ext λ l. fun-ext λ m. less-along-is (free links p) (b .terms .bandwidth) (b .grant .start) (until p b) (b .grant .path) (path-distinct (graph links) (b .grant .path) (r .path-right)) l m ∙ sym (free-put-in links p b l m)
@@ -151,7 +151,7 @@ module _ (links : List Link) (p : Plain) (b : Booking) (small : length links ≤
     -- whether a link has the bandwidth in every minute of the span from the clock on
     link-fits : (l : ℕ) → l < length links
         → Tells
-        (enough-span (event-table (put-in b p)) (b .grant .start) (until p b) l (b .terms .bandwidth) (table (length links) (free links p) (events-of (put-in b p))))
+        (enough-span (event-table (put-in b p)) (b .grant .start) (until p b) l (b .terms .bandwidth) (table most-events (length links) (free links p) (events-of (put-in b p))))
         ((m : ℕ) → p .clock ≤ m → b .grant .start ≤ m → m < until p b → b .terms .bandwidth ≤ free links p l m)
     unfolding flatten
     link-fits l h = by (side (b .grant .start) (p .clock))
@@ -166,7 +166,7 @@ module _ (links : List Link) (p : Plain) (b : Booking) (small : length links ≤
         test m = leb (b .terms .bandwidth) (free links p l m)
 
         looked : Bool
-        looked = enough-span (event-table (put-in b p)) (b .grant .start) (until p b) l (b .terms .bandwidth) (table (length links) (free links p) (events-of (put-in b p)))
+        looked = enough-span (event-table (put-in b p)) (b .grant .start) (until p b) l (b .terms .bandwidth) (table most-events (length links) (free links p) (events-of (put-in b p)))
 
         changes : ChangesAt ts (free links p l)
         changes = changes-more start (changes-more (until p b) (free-changes links p l))
@@ -181,10 +181,10 @@ module _ (links : List Link) (p : Plain) (b : Booking) (small : length links ≤
         by : Side start (p .clock) → Tells looked ((m : ℕ) → p .clock ≤ m → start ≤ m → m < until p b → b .terms .bandwidth ≤ free links p l m)
         by (below k) =
             since (p .clock) (omega arith) (omega arith) (λ m i j. i)
-            (enough-span-early (p .clock) ts (table (length links) (free links p) (events (p .clock) ts)) l (b .terms .bandwidth) start (until p b) (omega arith)
-            ∙ enough-span-table (length links) (free links p) small (p .clock) ts l (b .terms .bandwidth) h changes (p .clock) (until p b) (omega arith) (r .still-stands))
+            (enough-span-early most-events (p .clock) ts (table most-events (length links) (free links p) (events (p .clock) ts)) l (b .terms .bandwidth) start (until p b) (omega arith)
+            ∙ enough-span-table most-events (length links) (free links p) small (p .clock) ts l (b .terms .bandwidth) h changes (p .clock) (until p b) (omega arith) (r .still-stands))
         by (above k) =
-            since start (omega arith) k (λ m i j. j) (enough-span-table (length links) (free links p) small (p .clock) ts l (b .terms .bandwidth) h changes start (until p b) k (omega (arith, r .duration-right .0)))
+            since start (omega arith) k (λ m i j. j) (enough-span-table most-events (length links) (free links p) small (p .clock) ts l (b .terms .bandwidth) h changes start (until p b) k (omega (arith, r .duration-right .0)))
 
     -- what is answered
     answer-added : Tells
@@ -193,7 +193,7 @@ module _ (links : List Link) (p : Plain) (b : Booking) (small : length links ≤
     unfolding enough-path
     answer-added =
         rw (events-added, rows-added)
-        (all-tells-in (λ l. enough-span (event-table (put-in b p)) (b .grant .start) (until p b) l (b .terms .bandwidth) (table (length links) (free links p) (events-of (put-in b p))))
+        (all-tells-in (λ l. enough-span (event-table (put-in b p)) (b .grant .start) (until p b) l (b .terms .bandwidth) (table most-events (length links) (free links p) (events-of (put-in b p))))
         (λ l. (m : ℕ) → p .clock ≤ m → b .grant .start ≤ m → m < until p b → b .terms .bandwidth ≤ free links p l m) (λ l. l < length links) link-fits (b .grant .path) inside)
 
 -- ---- no link is oversold with it where none was without, and its links have the bandwidth

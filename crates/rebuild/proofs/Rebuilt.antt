@@ -25,7 +25,6 @@ use Rattle.rules.specs.Calls.{put-in}
 use Rattle.rules.specs.Tables.{events-of, event-table, free-table, booking-of, booking-at, held-by}
 use Rattle.rules.specs.Sound.{BookingRight}
 use Rattle.units.specs.LinkTables.{links-of}
-use Rattle.free_table.specs.Looking.{TablesSized}
 use Rattle.rebuild.specs.Rebuilding.{release-of, PlaceRight, NotOversold, CanRebuild}
 use Rattle.rules.proofs.Obeys.{right-in}
 use Rattle.rules.proofs.LinkColumns.{links-count, capacity-column}
@@ -46,7 +45,7 @@ module _ (links : List Link) (p : Plain) (small : length links ≤ most-links) (
   events-sized = ap length (r .events-are) ∙ length-padded most-events (events-of p) enough
 
   free-sized : length t ≡ most-events * most-links
-  free-sized = ap length (r .free-are) ∙ length-table (length links) (free links p) small (events-of p) enough
+  free-sized = ap length (r .free-are) ∙ length-table (length links) (free links p) small most-events (events-of p) enough
 
 -- ---- one booking more
 
@@ -96,7 +95,7 @@ module _ (head : Head) (book : List ℕ) where
 -- ---- no bookings
 
 module _ (columns : LinkTable) (head : Head) (book : List ℕ) (few : columns .count ≤ most-links) (given : columns .count ≤ length (columns .capacity)) where
-  pub rebuilt-none : (es t : List ℕ) → es ≡ only-clock (head .clock .0) → t ≡ all-free (columns .count) (columns .capacity) → Rebuilt (links-of columns) (from-place head book (head .bookings)) es t true
+  pub rebuilt-none : (es t : List ℕ) → es ≡ only-clock most-events (head .clock .0) → t ≡ all-free (most-events * most-links) (columns .count) (columns .capacity) → Rebuilt (links-of columns) (from-place head book (head .bookings)) es t true
   unfolding count-from flatten sum
   rebuilt-none es t is-events is-free = subst (λ p. Rebuilt links p es t true) (sym nothing-left) none
     where
@@ -114,9 +113,9 @@ module _ (columns : LinkTable) (head : Head) (book : List ℕ) (few : columns .c
 
       none : Rebuilt links bare es t true
       none = record {
-        events-are = is-events ∙ only-clock-events (head .clock .0);
-        free-are = is-free ∙ ap (λ k. all-free k (columns .capacity)) (sym (links-count columns))
-            ∙ all-free-table (length links) (free links bare) (head .clock .0) (columns .capacity) (omega (arith, links-count columns)) (omega (arith, links-count columns)) capacities;
+        events-are = is-events ∙ only-clock-events most-events (head .clock .0);
+        free-are = is-free ∙ ap (λ k. all-free (most-events * most-links) k (columns .capacity)) (sym (links-count columns))
+            ∙ all-free-table most-events (length links) (free links bare) (head .clock .0) (columns .capacity) (omega arith) (omega (arith, links-count columns)) (omega (arith, links-count columns)) capacities;
         answer-is = ((λ e l m h. omega arith), λ h. refl);
       }
 
@@ -136,13 +135,10 @@ module _ (columns : LinkTable) (head : Head) (book : List ℕ) {es₀ t₀ : Lis
   few-links = rw (links-count columns) (can .few-links)
 
   -- the tables at any place have the right sizes
-  pub place-sizes : (i : ℕ) {es t : List ℕ} {fits : Bool} → Rebuilt (links-of columns) (from-place head book i) es t fits → TablesSized es t
+  pub place-sizes : (i : ℕ) {es t : List ℕ} {fits : Bool} → Rebuilt (links-of columns) (from-place head book i) es t fits → (length es ≡ most-events) × (length t ≡ most-events * most-links)
   place-sizes i r =
       let few : length (from-place head book i .bookings) ≤ most-bookings = omega (arith, length-from i, can .few-bookings) in
-      record {
-        events-sized = events-sized (links-of columns) (from-place head book i) few-links few r;
-        free-sized = free-sized (links-of columns) (from-place head book i) few-links few r;
-      }
+      (events-sized (links-of columns) (from-place head book i) few-links few r, free-sized (links-of columns) (from-place head book i) few-links few r)
 
   can-add : (i : ℕ) → i < head .bookings → CanAdd (links-of columns) (from-place head book (suc i)) (booking-in book i)
   can-add i h = record {

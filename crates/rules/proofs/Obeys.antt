@@ -50,7 +50,7 @@ module _ (links : List Link) (p : Plain) {bs cs : List Booking} (q : List·Perm�
   tables-permuted d = λ i. record {
     head = record { clock = record { 0 = p .clock }; links = length links; bookings = length-permuted q i };
     events = padded most-events (events-permuted i);
-    free = table (length links) (free-permuted i) (events-permuted i);
+    free = table most-events (length links) (free-permuted i) (events-permuted i);
     book = padded (most-bookings * place-size) (flatten (map place (by-number-permuted q d i)));
   }
 
@@ -185,7 +185,7 @@ module _ (links : List Link) (p : Plain) (o : Obeys links p) where
     tables-sized = sized-tells links (tables links p) .1 (record {
       links-right = count;
       events-right = length-padded most-events (events-of p) few-events;
-      free-right = length-table (length links) (free links p) (count .1) (events-of p) few-events;
+      free-right = length-table (length links) (free links p) (count .1) most-events (events-of p) few-events;
       book-right = length-padded (most-bookings * place-size) (flatten (map place (by-number (p .bookings))))
           (rw (length-rows place place-size (by-number (p .bookings)) (place-rows (by-number (p .bookings)) (all-permuted Short (Permᴰ·symm (by-number-is (p .bookings))) all-short)), length-permuted (by-number-is (p .bookings))) (let few = o .not-too-many in omega arith));
     })

@@ -47,7 +47,7 @@ abbrev pub event-table : Plain → List ℕ
 event-table p = padded most-events (events-of p)
 
 abbrev pub free-table : List Link → Plain → List ℕ
-free-table links p = table (length links) (free links p) (events-of p)
+free-table links p = table most-events (length links) (free links p) (events-of p)
 
 abbrev pub book-table : Plain → List ℕ
 book-table p = padded (most-bookings * place-size) (flatten (map place (by-number (p .bookings))))

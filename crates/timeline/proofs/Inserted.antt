@@ -10,7 +10,7 @@ use native.Mathlib.Omega.{arith}
 use lib.Dec.{ltb}
 use lib.ListN.{length, getD, take, drop, replicate, take-append-drop, length-append}
 use lib.Seq.{take-at, drop-append-add, length-take-le}
-use Rattle.units.specs.Limits.{most-links, most-events}
+use Rattle.units.specs.Limits.{most-links}
 use Rattle.units.specs.Lists.{padded, member, put-piece}
 use Rattle.units.proofs.Tests.{member-tells, absent, Rising, Side, below, above, side}
 use Rattle.units.proofs.Padded.{length-padded, padded-at, padded-insert, rows, length-rows, all-rows, rows-insert}
@@ -220,10 +220,12 @@ pub count-of-events : (n c : ℕ) (ts : List ℕ) → count-events (padded n (ev
 unfolding count-events
 count-of-events n c ts = ap suc (filled-padded c (later c ts) (n - length (events c ts)) (later-rises c ts))
 
--- there is room for more events, where those of the times and the further ones are at most most-events
-pub room-of-events : (c : ℕ) (ts rows : List ℕ) (more : ℕ) → length rows ≡ most-events * most-links → length (events c ts) + more ≤ most-events → Room (padded most-events (events c ts)) rows more
-room-of-events c ts rows more e h = record { events-sized = length-padded most-events (events c ts) (omega arith); rows-sized = e; room = rw count-of-events h }
+-- there is room for more events, where those of the times and the further ones are at most the places
+pub room-of-events : (places c : ℕ) (ts rows : List ℕ) (more : ℕ) → length rows ≡ places * most-links → length (events c ts) + more ≤ places → Room (padded places (events c ts)) rows more
+room-of-events places c ts rows more e h =
+    let n = length-padded places (events c ts) (omega arith) in
+    record { some = omega arith; rows-sized = e ∙ ap (λ k. k * most-links) (sym n); room = rw count-of-events (omega arith) }
 
-pub only-clock-events : (c : ℕ) → only-clock c ≡ padded most-events (events c [])
+pub only-clock-events : (places c : ℕ) → only-clock places c ≡ padded places (events c [])
 unfolding only-clock later
-only-clock-events c = refl
+only-clock-events places c = refl

@@ -8,9 +8,9 @@ use native.Mathlib.Omega.{arith}
 use lib.Dec.{leb}
 use lib.ListN.{length, getD, take, drop, length-append, length-take, length-drop}
 use borrow.Author.Tests.{lt-ltb, le-ltb, ltb-true}
-use Rattle.units.specs.Limits.{most-events}
 use Rattle.timeline.specs.Events.{further, passed, row-at}
 use Rattle.timeline.specs.EventTable.{filled, count-events}
+use Rattle.units.specs.Limits.{most-links}
 use Rattle.units.specs.Lists.{put-piece}
 use Rattle.timeline.specs.Insertion.{missing, if-missing, with-event, with-row, Room}
 use Rattle.units.proofs.Pieces.{put-in-part}
@@ -33,7 +33,7 @@ row-below m [] h = absurd (omega arith)
 row-below m (c ∷ es) h = omega (arith, passed-filled m es)
 
 -- so with room for one more event there is a row behind it
-pub row-fits : (m : ℕ) {es rows : List ℕ} {more : ℕ} → Room es rows more → row-at es m + more < most-events
+pub row-fits : (m : ℕ) {es rows : List ℕ} {more : ℕ} → Room es rows more → row-at es m + more < length es
 row-fits m {es} r = omega (arith, row-below m es (omega arith))
 
 -- ---- by whether the event of the row that holds, row i, is before m
@@ -118,8 +118,10 @@ count-with-event m (c ∷ es) h = by (missing (c ∷ es) m) refl
 
 -- an event takes one place of the room
 pub room-after : (m : ℕ) {es rows : List ℕ} {more : ℕ} (after : List ℕ) → Room es rows (suc more) → length after ≡ length rows → Room (with-event m es) after more
-room-after m {es} {rows} {more} after r e = record {
-  events-sized = length-with-event m r ∙ r .events-sized;
-  rows-sized = e ∙ r .rows-sized;
-  room = omega (arith, count-with-event m es (omega arith), r .room);
-}
+room-after m {es} {rows} {more} after r e =
+    let same = length-with-event m r in
+    record {
+      some = rw same (r .some);
+      rows-sized = e ∙ r .rows-sized ∙ ap (λ n. n * most-links) (sym same);
+      room = rw same (omega (arith, count-with-event m es (r .some), r .room));
+    }

@@ -7,9 +7,9 @@ use units::clear_from;
 use units::shift_up;
 ghost use mathlib.Core.Path.{_≡_};
 ghost use mathlib.Core.List.{[], _∷_};
-ghost use Prim.Native.Nat.{_+_, _≤_};
+ghost use Prim.Native.Nat.{_+_, _≤_, _<_};
 ghost use lib.ListN.{length, take};
-ghost use Rattle.units.specs.Limits.{most-links, most-events};
+ghost use Rattle.units.specs.Limits.{most-links};
 ghost use Rattle.units.specs.Lists.{put-piece};
 ghost use Rattle.timeline.specs.Events.{row-at};
 ghost use Rattle.timeline.specs.EventTable.{count-events, only-clock};
@@ -55,8 +55,8 @@ pub extern "C" fn count_events(events: &[u32]) -> usize
 // The event table of a desk without bookings: the clock alone.
 #[no_mangle]
 pub extern "C" fn reset_events(events: &mut [u32], clock: Minute)
-    requires { ⌜ length (now events) ≡ most-events ⌝ }
-    ensures { λ _. ⌜ now (events .exit) ≡ only-clock (clock .0) ⌝ }
+    requires { ⌜ 0 < length (now events) ⌝ }
+    ensures { λ _. ⌜ now (events .exit) ≡ only-clock (length (now (events .entry))) (clock .0) ⌝ }
 {
     events[0] = clock.0;
     clear_from(events, 1);

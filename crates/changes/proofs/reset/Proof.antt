@@ -6,6 +6,8 @@ use lib.ListN.{length, replicate}
 use borrow.Author.Needs.{needs}
 use Rattle.units.specs.Limits.{most-links}
 use Rattle.units.specs.LinkTables.{links-of}
+use Rattle.timeline.specs.EventTable.{only-clock}
+use Rattle.free_table.specs.Figures.{all-free}
 use Rattle.rules.specs.Tables.{lent}
 use Rattle.rules.proofs.Tests.{Sized, sized-tells}
 use Rattle.rules.proofs.LinkColumns.{links-count, capacities-long}
@@ -24,10 +26,10 @@ given : (s : tie.Start) → s .args .t1 .count ≤ length (s .args .t1 .capacity
 given s = omega (arith, capacities-long (s .args .t1) (s .good .0), few s)
 
 reset-events-requires : tie.Need-reset-events-requires
-reset-events-requires c κs = right (c .before .before .before .before) .events-right
+reset-events-requires c κs = omega (arith, right (c .before .before .before .before) .events-right)
 
 reset-free-requires : tie.Need-reset-free-requires
-reset-free-requires c κs = let s = c .before .before .before .before .before .before .before .before .before .before .before in record { free-sized = right s .free-right; given = given s; few = few s }
+reset-free-requires c κs = let s = c .before .before .before .before .before .before .before .before .before .before .before in record { fits = omega (arith, right s .free-right, few s); given = given s }
 
 clear-from-requires : tie.Need-clear-from-requires
 clear-from-requires c κs = search needs
@@ -50,7 +52,8 @@ returns c =
     let freed = cleared .before .before .before .before in
     let begun = freed .before .before .before .before .before .before .before in
     let s = begun .before .before .before .before .before in
-    reset-tables (s .args .t1) (few s) (given s) (begun .reset-events .ensures) (freed .reset-free .ensures)
+    reset-tables (s .args .t1) (few s) (given s) (begun .reset-events .ensures ∙ ap (λ n. only-clock n 0) (right s .events-right))
+    (freed .reset-free .ensures ∙ ap (λ n. all-free n (s .args .t1 .count) (s .args .t1 .capacity)) (right s .free-right))
     (cleared .clear-from .ensures ∙ ap (λ n. replicate (n - 0) 0) (right s .book-right))
 
 pub reset-spec : {M : Type 1} → statement M

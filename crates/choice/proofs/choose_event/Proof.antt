@@ -3,10 +3,9 @@ use mathlib.Core.Path.{_∙_}
 use mathlib.Core.Logic.{⊎-elim}
 use Prim.Native.Nat.{_-_, _≤_}
 use native.Mathlib.Numerals.{add-one}
-use lib.ListN.{getD}
+use lib.ListN.{length, getD}
 use native.Mathlib.Omega.{arith}
 use borrow.Author.Needs.{needs}
-use Rattle.units.specs.Limits.{most-events}
 use Rattle.free_table.specs.Figures.{kept}
 use Rattle.path_search.specs.Answer.{graph}
 use Rattle.choice.specs.Choice.{possible}
@@ -23,10 +22,10 @@ use Rattle.choice.proofs.started.Reads as started-reads
 
 abbrev Inv-loop : tie.InvT-loop
 Inv-loop search events free low latest place₀ place =
-    (place ≤ most-events) × Tried (possible (graph (search .ends)) (carries (kept events free) (search .bandwidth .0) (search .span .0)) (search .source) (search .destination)) events (low .0) (latest .0) place
+    (place ≤ length events) × Tried (possible (graph (search .ends)) (carries (kept events free) (search .bandwidth .0) (search .span .0)) (search .source) (search .destination)) events (low .0) (latest .0) place
 
 abbrev μ-loop : tie.MeasureT-loop
-μ-loop search events free low latest place₀ place = most-events - place
+μ-loop search events free low latest place₀ place = length events - place
 
 -- src/lib.rt:144:5
 loop-holds : tie.Need-loop-holds Inv-loop μ-loop

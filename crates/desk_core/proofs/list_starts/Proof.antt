@@ -1,5 +1,6 @@
 -- `list_starts` meets its contract: each way out is one of the outcome's; the ranges are the plain book's.
 use mathlib.Core.Path.{_≡_, refl, sym, ap, _∙_}
+use native.Mathlib.Omega.{arith}
 use lib.Dec.{eqb}
 use lib.ListN.{length}
 use borrow.Author.Needs.{needs}
@@ -13,6 +14,7 @@ use Rattle.rules.specs.Tables.{held, lent}
 use Rattle.rules.proofs.Tests.{request-right}
 use Rattle.rules.proofs.Exits.{refused-with, stopped, all-passed, accepted}
 use Rattle.desk_core.proofs.Handed.{handed-listing}
+use Rattle.changes.proofs.InOrder.{sizes}
 use Rattle.refusals.proofs.TableChecks.{lent-refusal, fine, list-fine, tables-refused}
 use Rattle.refusals.proofs.OwnChecks.{listed-as-offer}
 use Rattle.desk_core.proofs.BestStart.{best-asks, same-ranges}
@@ -57,7 +59,7 @@ all-starts-requires c κs = let a = c .before .before .before .before .before .b
     let f = fine l t right-size passed in
     let fits = list-fine l t right-size passed in
     let passes : first-refusal (own-checks l (held t) (Ask.list (length (now (a .list))) (a .request))) ≡ 0 = listed-as-offer l (held t) (length (now (a .list))) (a .request) fits ∙ sym (c .before .before .offer-refusal .ensures) ∙ c .before .if2 .left in
-    (best-asks (a .links) t f (a .request) (request-right (a .request) (all-passed l t (Ask.list (length (now (a .list))) (a .request)) (f .is-sized) fits (f .is-sound) passes .1 .0)), eqb-true (length (now (a .list))) list-size fits)
+    (best-asks (a .links) t f (a .request) (request-right (a .request) (all-passed l t (Ask.list (length (now (a .list))) (a .request)) (f .is-sized) fits (f .is-sound) passes .1 .0)), (omega (arith, sizes f .events-right), eqb-true (length (now (a .list))) list-size fits))
 
 same-length : tie.Need-same-length
 same-length c = search needs

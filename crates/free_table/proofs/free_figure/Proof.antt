@@ -2,8 +2,8 @@
 use mathlib.Core.Path.{ap}
 use Prim.Native.Nat.{_+_, _*_, _<_}
 use native.Mathlib.Omega.{arith}
-use lib.ListN.{getD}
-use Rattle.units.specs.Limits.{most-links, most-events}
+use lib.ListN.{length, getD}
+use Rattle.units.specs.Limits.{most-links}
 use Rattle.timeline.proofs.Rows.{row-inside}
 use borrow.Author.Needs.{needs}
 use Rattle.free_table.proofs.free_figure.Statement.{statement}
@@ -13,7 +13,7 @@ row-at-requires : tie.Need-row-at-requires
 row-at-requires c κs = search needs
 
 -- the row that was found is one of the table's
-row-found : (c : tie.After-row-at) → c .row-at .result < most-events
+row-found : (c : tie.After-row-at) → c .row-at .result < length (c .before .before .before .args .events .now)
 row-found c =
     let s = c .before .before .before in
     omega (arith, c .row-at .ensures, row-inside (s .args .minute .0) (s .args .events .now) (omega arith))

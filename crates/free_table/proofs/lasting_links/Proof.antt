@@ -3,9 +3,9 @@ use mathlib.Core.Path.{ap₂, _∙_}
 use Prim.Native.Nat.{suc, _-_, _*_, _≤_, _<_}
 use native.Mathlib.Numerals.{add-one}
 use native.Mathlib.Omega.{arith}
-use lib.ListN.{drop}
+use lib.ListN.{length, drop}
 use borrow.Author.Needs.{needs}
-use Rattle.units.specs.Limits.{most-links, most-events}
+use Rattle.units.specs.Limits.{most-links}
 use Rattle.timeline.proofs.Rows.{row-inside, row-later}
 use Rattle.units.proofs.Pieces.{rest-whole, length-rest}
 use Rattle.free_table.specs.Looking.{enough-rows, enough-span}
@@ -22,11 +22,11 @@ row-at-requires-2 : tie.Need-row-at-requires-2
 row-at-requires-2 c κs = search needs
 
 -- the rows of the start and of the last minute are the table's, in that order
-rows-found : (c : tie.After-row-at2) → (c .before .before .row-at .result ≤ c .row-at2 .result) × (c .row-at2 .result < most-events)
+rows-found : (c : tie.After-row-at2) → (c .before .before .row-at .result ≤ c .row-at2 .result) × (c .row-at2 .result < length (c .before .before .before .before .before .args .events .now))
 rows-found c =
     let s = c .before .before .before .before .before in (
       rw (c .before .before .row-at .ensures, c .row-at2 .ensures) (row-later (s .args .start .0) _ (s .args .events .now) (omega arith)),
-      rw (c .row-at2 .ensures, ← s .pre .0 .events-sized) (row-inside _ (s .args .events .now) (omega arith)),
+      rw (c .row-at2 .ensures) (row-inside _ (s .args .events .now) (s .pre .0 .some)),
     )
 
 mul-from : tie.Need-mul-from

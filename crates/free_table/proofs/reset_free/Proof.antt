@@ -1,10 +1,9 @@
 -- `reset_free` meets its contract. The capacities of the links below `link` are copied; the rest is then cleared.
 use mathlib.Core.Path.{_≡_, refl, ap, _∙_}
 use mathlib.Core.List.{_++_}
-use Prim.Native.Nat.{_-_, _*_, _≤_}
+use Prim.Native.Nat.{_-_, _≤_}
 use native.Mathlib.Omega.{arith}
 use lib.ListN.{length, getD, set, take, drop, length-set}
-use Rattle.units.specs.Limits.{most-links, most-events}
 use Rattle.free_table.specs.Figures.{all-free}
 use Rattle.free_table.proofs.Steps.{copied-more, copied-cleared}
 use Rattle.free_table.proofs.reset_free.Statement.{statement}
@@ -62,7 +61,7 @@ returns c =
     let a = s .args in
     let e : l .link ≡ a .links = omega arith in
     c .before .before .clear-from .ensures
-    ∙ copied-cleared (most-events * most-links) (a .links) (a .capacities .now) (a .free .now) (l .free) (s .pre .given) (l .inv .1 .0 ∙ s .pre .free-sized) (l .inv .1 .1 ∙ ap (λ n. take n (a .capacities .now) ++ drop n (a .free .now)) e)
+    ∙ copied-cleared (length (a .free .now)) (a .links) (a .capacities .now) (a .free .now) (l .free) (s .pre .given) (l .inv .1 .0) (l .inv .1 .1 ∙ ap (λ n. take n (a .capacities .now) ++ drop n (a .free .now)) e)
 
 pub reset-free-spec : {M : Type 1} → statement M
 reset-free-spec =

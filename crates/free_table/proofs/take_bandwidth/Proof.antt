@@ -5,8 +5,7 @@ use Prim.Native.Nat.{_-_, _*_, _≤_, _<_}
 use native.Mathlib.Omega.{arith}
 use lib.ListN.{length, take, drop}
 use borrow.Rule.Slice.PartMut.{take-put}
-use Rattle.units.specs.Limits.{most-links, most-events}
-use Rattle.timeline.specs.Events.{row-at}
+use Rattle.units.specs.Limits.{most-links}
 use Rattle.timeline.proofs.Rows.{row-inside, row-later}
 use Rattle.units.proofs.Pieces.{length-rest, part-back}
 use Rattle.free_table.specs.Taking.{less-rows, less-span}
@@ -21,7 +20,7 @@ row-at-requires-2 : tie.Need-row-at-requires-2
 row-at-requires-2 c κs = search needs
 
 -- the rows of the start and the end are the table's, in that order
-rows-found : (c : tie.After-row-at2) → (c .before .row-at .result ≤ c .row-at2 .result) × (c .row-at2 .result < most-events)
+rows-found : (c : tie.After-row-at2) → (c .before .row-at .result ≤ c .row-at2 .result) × (c .row-at2 .result < length (c .before .before .before .before .args .events .now))
 rows-found c =
     let s = c .before .before .before .before in
     omega (arith, row-later (s .args .start .0) (s .args .end .0) (s .args .events .now) (s .pre .1), row-inside (s .args .end .0) (s .args .events .now) (omega arith))

@@ -33,8 +33,8 @@ abbrev μ-loop : tie.MeasureT-loop
 
 -- src/lib.rt:186:9
 -- the list has a place for each event
-events-few : {s : Search} {es t : List ℕ} {low latest : ℕ} (a : Askable s es t low latest) → length (events (a .clock) (a .times)) ≤ most-ranges
-events-few a = omega (arith, a .sized .events-sized, simp (length-append) at (ap length (a .are-events)))
+events-few : {s : Search} {es t : List ℕ} {low latest : ℕ} (a : Askable s es t low latest) → length es ≤ most-ranges → length (events (a .clock) (a .times)) ≤ most-ranges
+events-few a few = omega (arith, simp (length-append) at (ap length (a .are-events)))
 
 first-start-requires : tie.Need-first-start-requires Inv-loop μ-loop
 first-start-requires c κs = c .before .before .before .pre .0
@@ -44,7 +44,7 @@ loop-holds : tie.Need-loop-holds Inv-loop μ-loop
 loop-holds c =
     let s = c .before .before .before .before in
     let a = s .args in
-    listed-first (graph (a .search .ends)) (carries (kept (a .events .now) (a .free .now)) (a .search .bandwidth .0) (a .search .span .0)) (a .search .source) (a .search .destination) (a .low .0) (a .latest .0) (c .first-start .result) (c .first-start .ensures) (a .list .now) (s .pre .1)
+    listed-first (graph (a .search .ends)) (carries (kept (a .events .now) (a .free .now)) (a .search .bandwidth .0) (a .search .span .0)) (a .search .source) (a .search .destination) (a .low .0) (a .latest .0) (c .first-start .result) (c .first-start .ensures) (a .list .now) (s .pre .1 .1)
 
 -- src/lib.rt:198:13
 run-end-requires : tie.Need-run-end-requires Inv-loop μ-loop
@@ -67,7 +67,7 @@ room c =
     let l = c .before .before .before .loop in
     let first = c .before .before .before .before .first-start in
     let r = c .run-end in
-    listed-few (graph (a .search .ends)) (carries (kept (a .events .now) (a .free .now)) (a .search .bandwidth .0) (a .search .span .0)) (a .search .source) (a .search .destination) (a .low .0) (a .latest .0) (first .result) (first .ensures) (l .list) (l .count) (l .start) (l .inv) (omega (arith, c .before .if1 .taken)) (r .result) (r .ensures) (p .clock) (p .times) (kept-back (p .clock) (p .times) (a .events .now) (a .free .now) (p .are-events) (a .search .bandwidth .0) (a .search .span .0)) (p .not-past) (events-few p)
+    listed-few (graph (a .search .ends)) (carries (kept (a .events .now) (a .free .now)) (a .search .bandwidth .0) (a .search .span .0)) (a .search .source) (a .search .destination) (a .low .0) (a .latest .0) (first .result) (first .ensures) (l .list) (l .count) (l .start) (l .inv) (omega (arith, c .before .if1 .taken)) (r .result) (r .ensures) (p .clock) (p .times) (kept-back (p .clock) (p .times) (a .events .now) (a .free .now) (p .are-events) (a .search .bandwidth .0) (a .search .span .0)) (p .not-past) (events-few p (s .pre .1 .0))
 
 cast-place : tie.Need-cast-place Inv-loop μ-loop
 cast-place c = omega (arith, room c)
@@ -154,7 +154,7 @@ clear-from-requires c κs = let l = c .before .before .before .loop .inv in omeg
 
 -- src/lib.rt:169:1
 same-length : tie.Need-same-length Inv-loop μ-loop
-same-length c = c .before .before .clear-from .kept .0 ∙ c .before .before .before .before .before .before .loop .inv .sized ∙ sym (c .before .before .before .before .before .before .before .before .before .before .before .pre .1)
+same-length c = c .before .before .clear-from .kept .0 ∙ c .before .before .before .before .before .before .loop .inv .sized ∙ sym (c .before .before .before .before .before .before .before .before .before .before .before .pre .1 .1)
 
 -- src/lib.rt:169:1
 returns : tie.Need-returns Inv-loop μ-loop

@@ -4,8 +4,8 @@ use mathlib.Core.Path.{_≡_, refl, sym, _∙_, subst}
 use mathlib.Core.Logic.{⊎-elim}
 use Prim.Native.Nat.{_-_, _+_, _≤_}
 use native.Mathlib.Omega.{arith}
+use lib.ListN.{length}
 use borrow.Author.Tests.{not-true, not-false}
-use Rattle.units.specs.Limits.{most-events}
 use Rattle.path_search.specs.Answer.{graph}
 use Rattle.choice.specs.Answer.{possible-for}
 use Rattle.choice.proofs.Exits.{askable-at}
@@ -16,10 +16,10 @@ use Rattle.listing.proofs.run_end.Tie as tie
 -- the loop knows start by the end of its span
 abbrev Inv-loop : tie.InvT-loop
 Inv-loop search events free latest end₀ last-end place₀ end place =
-    (place ≤ most-events) × RunTo (possible-for search events free) events (search .span .0) (end₀ - search .span .0) (latest .0) end place
+    (place ≤ length events) × RunTo (possible-for search events free) events (search .span .0) (end₀ - search .span .0) (latest .0) end place
 
 abbrev μ-loop : tie.MeasureT-loop
-μ-loop search events free latest end₀ last-end place₀ end place = most-events - place
+μ-loop search events free latest end₀ last-end place₀ end place = length events - place
 
 -- the function's entry, from the loop's head
 abbrev entry : tie.At-loop Inv-loop μ-loop → tie.Start Inv-loop μ-loop
@@ -122,7 +122,7 @@ returns-3 c =
     let s = entry at in
     let a = s .args in
     let p = s .pre .0 in
-    run-left (graph (a .search .ends)) (a .events .now) (a .free .now) (a .search .bandwidth .0) (a .search .span .0) (a .search .source) (a .search .destination) (p .clock) (p .times) (p .are-events) (p .lasts) (a .start .0) (a .latest .0) (p .not-past) (at .loop .end) (at .loop .place) (run-here at) (omega (arith, p .sized .events-sized))
+    run-left (graph (a .search .ends)) (a .events .now) (a .free .now) (a .search .bandwidth .0) (a .search .span .0) (a .search .source) (a .search .destination) (p .clock) (p .times) (p .are-events) (p .lasts) (a .start .0) (a .latest .0) (p .not-past) (at .loop .end) (at .loop .place) (run-here at) (omega arith)
 
 pub run-end-spec : {M : Type 1} → statement M
 run-end-spec =

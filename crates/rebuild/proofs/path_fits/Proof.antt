@@ -40,7 +40,7 @@ has-bandwidth-requires c κs =
     let r = s .pre .1 .0 in
     let b = s .args .b in (
       record {
-        events-sized = s .pre .0 .events-sized;
+        some = s .pre .0 .some;
         free-sized = s .pre .0 .free-sized;
         column = all-along (b .links) (b .count) (c .before .loop .i) (path-whole s) (λ l. l < most-links) (r .links-right) (c .loop-test .taken);
       },

@@ -3,14 +3,16 @@
 use mathlib.Core.Path.{_≡_, ap, _∙_, subst}
 use mathlib.Core.List.{List}
 use mathlib.Core.Bool.{Bool, true, false, _&&_}
-use Prim.Native.Nat.{ℕ, _-_, _≤_}
+use Prim.Native.Nat.{ℕ, _-_, _*_, _≤_}
 use native.Mathlib.Omega.{arith}
 use lib.ListN.{length}
 use borrow.Author.Needs.{needs}
 use borrow.Author.Tests.{not-true, not-false}
 use Rattle.units.specs.declared.LinkTable.{LinkTable}
+use Rattle.units.specs.Limits.{most-links, most-events}
 use Rattle.units.specs.LinkTables.{links-of}
-use Rattle.free_table.specs.Looking.{TablesSized}
+use Rattle.timeline.specs.EventTable.{only-clock}
+use Rattle.free_table.specs.Figures.{all-free}
 use Rattle.rebuild.specs.Rebuilding.{CanRebuild}
 use Rattle.rules.proofs.LinkColumns.{capacities-long}
 use Rattle.rebuild.proofs.Rebuilt.{Rebuilt, from-place, from-first, rebuilt-none, place-sizes, place-asks, place-gives}
@@ -31,7 +33,7 @@ abbrev entry : tie.At-loop Inv-loop μ-loop → tie.Start Inv-loop μ-loop
 entry c = c .before .before .before .before .before .before .before .before .before .before .before .before .before .before .before .before
 
 reset-events-requires : tie.Need-reset-events-requires Inv-loop μ-loop
-reset-events-requires c κs = c .before .before .before .before .pre .events-sized
+reset-events-requires c κs = omega (arith, c .before .before .before .before .pre .events-sized)
 
 capacities-given : (s : tie.Start Inv-loop μ-loop) → s .args .t2 .count ≤ length (s .args .t2 .capacity)
 capacities-given s = omega (arith, capacities-long (s .args .t2) (s .good .1 .0), s .pre .few-links)
@@ -39,7 +41,7 @@ capacities-given s = omega (arith, capacities-long (s .args .t2) (s .good .1 .0)
 reset-free-requires : tie.Need-reset-free-requires Inv-loop μ-loop
 reset-free-requires c κs =
     let s = c .before .before .before .before .before .before .before .before .before .before .before in
-    record { free-sized = s .pre .free-sized; given = capacities-given s; few = s .pre .few-links }
+    record { fits = omega (arith, s .pre .free-sized, s .pre .few-links); given = capacities-given s }
 
 cast-place : tie.Need-cast-place Inv-loop μ-loop
 cast-place c = search needs
@@ -55,7 +57,9 @@ at-place c =
     let a = s .args in
     let freed = c .before .before .before .before in
     c .loop .inv .1 (a .t2) (a .events .now) (a .free .now) (s .pre)
-    (rebuilt-none (a .t2) (a .head) (a .book .now) (s .pre .few-links) (capacities-given s) _ _ (freed .before .before .before .before .before .before .before .reset-events .ensures) (freed .reset-free .ensures))
+    (rebuilt-none (a .t2) (a .head) (a .book .now) (s .pre .few-links) (capacities-given s) _ _
+    (freed .before .before .before .before .before .before .before .reset-events .ensures ∙ ap (λ n. only-clock n (a .head .clock .0)) (s .pre .events-sized))
+    (freed .reset-free .ensures ∙ ap (λ n. all-free n (a .t2 .count) (a .t2 .capacity)) (s .pre .free-sized)))
 
 sub-place : tie.Need-sub-place Inv-loop μ-loop
 sub-place c = omega arith
@@ -104,7 +108,7 @@ loop-again-2 c =
     (omega arith, next tried (at .loop .fits) (ap (λ answer. answer && at .loop .fits) (not-false (tried .add-booking .result) (c .if1 .left))))
 
 -- the tables have their sizes still
-sizes : (c : tie.At-loop Inv-loop μ-loop) → TablesSized (c .loop .events) (c .loop .free)
+sizes : (c : tie.At-loop Inv-loop μ-loop) → (length (c .loop .events) ≡ most-events) × (length (c .loop .free) ≡ most-events * most-links)
 sizes c =
     let s = entry c in
     let a = s .args in

@@ -41,7 +41,7 @@ take-bandwidth-requires c κs =
     let r = s .pre .1 .0 in
     let b = s .args .b in (
       record {
-        events-sized = s .pre .0 .events-sized;
+        some = s .pre .0 .some;
         free-sized = c .before .before .loop .inv .1 .0 ∙ s .pre .0 .free-sized;
         column = all-along (b .links) (b .count) (c .before .before .loop .i) (path-whole s) (λ l. l < most-links) (r .links-right) (omega arith);
       },

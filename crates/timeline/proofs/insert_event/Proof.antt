@@ -3,8 +3,8 @@ use mathlib.Core.Path.{sym, _∙_}
 use mathlib.Core.List.{List, [], _∷_}
 use Prim.Native.Nat.{ℕ, _+_, _*_, _≤_, _<_}
 use native.Mathlib.Omega.{arith}
-use lib.ListN.{getD, take}
-use Rattle.units.specs.Limits.{most-links, most-events}
+use lib.ListN.{length, getD, take}
+use Rattle.units.specs.Limits.{most-links}
 use Rattle.timeline.specs.Events.{row-at}
 use Rattle.units.specs.Lists.{put-piece}
 use Rattle.units.proofs.Pieces.{length-rest, part-back}
@@ -17,7 +17,7 @@ row-at-requires : tie.Need-row-at-requires
 row-at-requires c κs = search needs
 
 -- the row that was found has a row behind it in both tables
-row-found : (c : tie.After-row-at) → c .row-at .result + 1 < most-events
+row-found : (c : tie.After-row-at) → c .row-at .result + 1 < length (c .before .before .before .before .args .events .now)
 row-found c =
     let s = c .before .before .before .before in
     omega (arith, row-fits (s .args .minute .0) (s .pre))

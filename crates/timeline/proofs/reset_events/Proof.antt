@@ -2,7 +2,6 @@
 use mathlib.Core.Path.{_∙_}
 use native.Mathlib.Omega.{arith}
 use lib.ListN.{length-set}
-use Rattle.units.specs.Limits.{most-events}
 use Rattle.timeline.specs.EventTable.{only-clock}
 use Rattle.timeline.proofs.Single.{clock-alone}
 use borrow.Author.Needs.{needs}
@@ -22,7 +21,7 @@ returns : tie.Need-returns
 unfolding only-clock
 returns c =
     let s = c .before .before .before .before .before in
-    c .before .before .clear-from .ensures ∙ clock-alone most-events (s .args .clock .0) (s .args .events .now) (s .pre) (omega arith)
+    c .before .before .clear-from .ensures ∙ clock-alone (s .args .clock .0) (s .args .events .now) (s .pre)
 
 pub reset-events-spec : {M : Type 1} → statement M
 reset-events-spec = tie.close (tie.spec slice-write-events clear-from-requires same-length returns)
