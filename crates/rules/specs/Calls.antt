@@ -112,7 +112,7 @@ own-checks links p (cancel n) = check 4 (number-ok n) ∷ check 9 (stands n (p .
 own-checks links p (move-clock m) = check 4 (leb m last-minute) ∷ check 10 (leb (p .clock) m) ∷ []
 own-checks links p (show l m) = check 4 (ltb l (length links) && within (p .clock) last-shown m) ∷ []
 
-abbrev pub chosen : Choice → Answer
+abbrev pub chosen : Choice Grant → Answer
 chosen (granted g) = starts g
 chosen no-start = refuse 8
 
