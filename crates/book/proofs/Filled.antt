@@ -58,7 +58,7 @@ module _ {A : Type 0} (f : A → List ℕ) where
 
   module _ (xs : List A) (r : Rows f place-size xs) where
     pub length-filled : length xs ≤ most-bookings → length (filled xs) ≡ most-bookings * place-size
-    length-filled h = length-padded (most-bookings * place-size) (flatten (map f xs)) (omega (arith, length-rows f place-size xs r))
+    length-filled h = length-padded 0 (most-bookings * place-size) (flatten (map f xs)) (omega (arith, length-rows f place-size xs r))
 
     pub places-filled : places-in (filled xs) (length xs) ≡ map f xs
     places-filled = read-filled f place-in f xs r (reads-place xs r)
@@ -102,8 +102,8 @@ module _ {A : Type 0} (f : A → List ℕ) where
     insert-filled b e =
         ap (λ (row : List ℕ). put-piece (length xs * place-size) row (filled (xs ++ ys))) e
         ∙ ap (λ n. take (length xs * place-size) (filled (xs ++ ys)) ++ (f x ++ take n (drop (length xs * place-size) (filled (xs ++ ys))))) room
-        ∙ sym (rows-insert f place-size most-bookings xs x ys r few)
+        ∙ sym (rows-insert 0 f place-size most-bookings xs x ys r few)
 
     pub remove-filled : without-place (length xs) (filled (xs ++ (x ∷ ys))) ≡ filled (xs ++ ys)
     unfolding without-place
-    remove-filled = sym (rows-remove f place-size most-bookings xs x ys r few)
+    remove-filled = sym (rows-remove 0 f place-size most-bookings xs x ys r few)

@@ -19,9 +19,10 @@ use Rattle.path_search.specs.Paths.{Graph, Route, along, none}
 use Rattle.path_search.specs.Answer.{path-of, answer}
 use Rattle.path_search.proofs.Answers.{route-sized, answer-none}
 use Rattle.choice.specs.declared.Chosen.{Chosen}
-use Rattle.choice.specs.Choice.{granted, route-at, possible, choose}
+use Rattle.choice.specs.Choice.{Grant, Choice, granted, grant-at, route-at, try-at, possible, choose}
 use Rattle.choice.specs.Answer.{carries, Askable, start-with, refusal, chosen}
-use Rattle.choice.proofs.Starts.{Tried, choose-none, choose-low, choose-event, choose-none-left, choose-too-late, along-possible, none-impossible}
+use Rattle.choice.proofs.Starts.{Tried, earliest-none, earliest-low, earliest-event, earliest-none-left, earliest-too-late, granted-can-start, no-start-cannot}
+use Rattle.choice.proofs.Possible.{possible-back}
 use Rattle.choice.proofs.Lent.{kept-back, event-at}
 
 -- ---- a route by its count of links
@@ -38,14 +39,14 @@ module _ (g : Graph) (usable : ℕ → ℕ → Bool) (from to m : ℕ) (r : Path
   -- without one the start is not possible
   pub no-route : r .count ≤ 0 → possible g usable from to m ≡ false
   no-route few =
-      none-impossible g usable from to m
-      (answer-none (route-at g usable from to m) (route-sized g (usable m) to from) (omega (arith, ap (λ (p : Path). p .count) answered)))
+      no-start-cannot (try-at g usable from to) m
+      (ap (grant-at m) (answer-none (route-at g usable from to m) (route-sized g (usable m) to from) (omega (arith, ap (λ (p : Path). p .count) answered))))
 
   -- so the start is possible if and only if there is one
   pub possible-counts : ltb 0 (r .count) ≡ possible g usable from to m
   possible-counts =
       elim (decLt 0 (r .count)) [
-        | yes h ↦ lt-ltb 0 (r .count) h ∙ sym (along-possible g usable from to m (route-found h .1))
+        | yes h ↦ lt-ltb 0 (r .count) h ∙ sym (granted-can-start (try-at g usable from to) m (ap (grant-at m) (route-found h .1)))
         | no h ↦ le-ltb 0 (r .count) (omega arith) ∙ sym (no-route (omega arith))
       ]
 
@@ -72,14 +73,17 @@ module _ (g : Graph) (es t : List ℕ) (bandwidth duration from to low latest c 
   abbrev carried : ℕ → ℕ → Bool
   carried = carries (kept es t) bandwidth duration
 
+  abbrev try : ℕ → Choice Grant
+  try = try-at g carried from to
+
   abbrev test : ℕ → Bool
   test = possible g carried from to
 
   abbrev Answered : Chosen → Type 0
   Answered r = r ≡ chosen (choose g carried from to low latest)
 
-  back : (k m l : ℕ) → k ≤ m → NoneBetween ts k m → carried m l ≡ true → carried k l ≡ true
-  back = kept-back c ts es t shown bandwidth duration
+  back : (k m : ℕ) → k ≤ m → NoneBetween ts k m → test m ≡ true → test k ≡ true
+  back = possible-back g carried from to ts (kept-back c ts es t shown bandwidth duration)
 
   place : (i : ℕ) → getD es i 0 ≡ getD (events c ts) i 0
   place = event-at c ts es t shown bandwidth duration
@@ -89,13 +93,13 @@ module _ (g : Graph) (es t : List ℕ) (bandwidth duration from to low latest c 
 
   -- a window that ends before it begins has no start
   pub answer-empty : latest < low → Answered refusal
-  answer-empty h = sym (ap chosen (choose-none g carried from to low latest (λ m a b. absurd (omega arith))))
+  answer-empty h = sym (ap chosen (earliest-none try low latest (λ m a b. absurd (omega arith))))
 
   -- low, where it has a path
   pub answer-low : low ≤ latest → (r : Path) → r ≡ answer (route-at g carried from to low) → 0 < r .count → Answered (start-with (record { 0 = low }) r)
   answer-low h r e some =
       let f = route-found g carried from to low r e some in
-      ap (start-with (record { 0 = low })) (f .2) ∙ sym (ap chosen (choose-low g carried from to c ts back low latest early (f .0) h (f .1)))
+      ap (start-with (record { 0 = low })) (f .2) ∙ sym (ap chosen (earliest-low try c ts back low latest early (record { start = low; path = f .0 }) h (ap (grant-at low) (f .1))))
 
   module _ (i : ℕ) (tried : Tried test es low latest i) where
     -- the next event, where it lies in the window and has a path
@@ -106,7 +110,7 @@ module _ (g : Graph) (es t : List ℕ) (bandwidth duration from to low latest c 
         let inside : i < length (events c ts) = by (side i (length (events c ts))) in
         ap (start-with (record { 0 = getD es i 0 })) (f .2)
         ∙ ap (λ m. chosen (granted (record { start = m; path = f .0 }))) (place i)
-        ∙ sym (ap chosen (choose-event g carried from to c ts back low latest early i (f .0) (tried-events i tried) inside (rw (place i) at a) (rw (place i) at b) (subst (λ m. route-at g carried from to m ≡ along (f .0)) (place i) (f .1))))
+        ∙ sym (ap chosen (earliest-event try c ts back low latest early i (record { start = getD (events c ts) i 0; path = f .0 }) (tried-events i tried) inside (rw (place i) at a) (rw (place i) at b) (subst (λ m. try m ≡ granted (record { start = m; path = f .0 })) (place i) (ap (grant-at (getD es i 0)) (f .1)))))
       where
         by : Side i (length (events c ts)) → i < length (events c ts)
         by (below h) = h
@@ -114,10 +118,10 @@ module _ (g : Graph) (es t : List ℕ) (bandwidth duration from to low latest c 
 
     -- no start, where the next event is too late or none is left
     pub answer-late : latest < getD es i 0 → Answered refusal
-    answer-late h = sym (ap chosen (choose-too-late g carried from to c ts back low latest early i (tried-events i tried) (rw (place i) at h)))
+    answer-late h = sym (ap chosen (earliest-too-late try c ts back low latest early i (tried-events i tried) (rw (place i) at h)))
 
     pub answer-left : length es ≤ i → Answered refusal
     answer-left h =
         let long : length (events c ts) ≤ i = omega (arith, simp (length-append) at (ap length shown)) in
         let all = tried-events i tried in
-        sym (ap chosen (choose-none-left g carried from to c ts back low latest early (record { not-low = all .not-low; not-events = λ j a. all .not-events j (omega arith) })))
+        sym (ap chosen (earliest-none-left try c ts back low latest early (record { not-low = all .not-low; not-events = λ j a. all .not-events j (omega arith) })))

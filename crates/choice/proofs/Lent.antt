@@ -50,7 +50,7 @@ module _ (c : ℕ) (ts es t : List ℕ) (shown : es ≡ padded (length es) (even
   kept-on m k l = carries-on (kept es t) bandwidth duration ts l (kept-steady l) m k
 
   pub event-at : (i : ℕ) → getD es i 0 ≡ getD (events c ts) i 0
-  event-at i = ap (λ x. getD x i 0) shown ∙ padded-get (length es) (events c ts) i
+  event-at i = ap (λ x. getD x i 0) shown ∙ padded-get 0 (length es) (events c ts) i
 
 -- the rows of a span have the bandwidth if and only if the span's minutes have
 pub enough-span-carries : (c : ℕ) (ts es t : List ℕ) → es ≡ padded (length es) (events c ts) → (l bandwidth start d : ℕ) → c ≤ start → 1 ≤ d

@@ -25,11 +25,12 @@ use Rattle.path_search.proofs.Loops.{NodesBelow}
 use Rattle.path_search.proofs.Paths.{chain-leads}
 use Rattle.path_search.proofs.Answers.{nodes-below}
 use Rattle.choice.specs.declared.Chosen.{Chosen}
-use Rattle.choice.specs.Choice.{Grant, Choice, granted, possible, choose}
+use Rattle.choice.specs.Choice.{Grant, Choice, granted, route-at, try-at, possible, choose}
 use Rattle.choice.specs.Answer.{suffices, carries, choice-for, Askable, start-with, refusal, chosen}
 use Rattle.choice.specs.Right.{NowhereLower, FreeThroughout, CarriedBy, Best, NonePossible, Right, best, none-possible}
 use Rattle.choice.proofs.Choice.{granted≢no-start, IsGrant, is-grant-only, ChoiceView, grants, grants-none, choose-view}
-use Rattle.choice.proofs.Starts.{possible-more, ChoiceFound, found, none-found, choice-found}
+use Rattle.choice.proofs.Starts.{ChoiceFound, found, none-found, choice-found}
+use Rattle.choice.proofs.Possible.{grant-starts, possible-more}
 
 -- a start is no refusal
 started-refused : {X : Type 0} (start : ℕ) (path : Path) → start-with (record { 0 = start }) path ≡ refusal → X
@@ -147,7 +148,7 @@ module _ (g : Graph) (figure : ℕ → ℕ → ℕ) (bandwidth duration source d
       pub choose-right : RightAnswer (chosen (choose g carried source destination low latest))
       choose-right = by (choose g carried source destination low latest) (choose-view g carried source destination low latest apart below node)
         where
-          by : (x : Choice) → ChoiceView g carried source destination low latest apart below node x → RightAnswer (chosen x)
+          by : (x : Choice Grant) → ChoiceView g carried source destination low latest apart below node x → RightAnswer (chosen x)
           by x (grants d i) =
               best (d .start) (d .path) (record {
                 in-window = (i .not-before, i .not-after);
@@ -168,6 +169,12 @@ module _ (g : Graph) (before after : ℕ → ℕ → ℕ) (more : NowhereLower b
   abbrev carried-after : ℕ → ℕ → Bool
   carried-after = carries after bandwidth duration
 
+  abbrev try-before : ℕ → Choice Grant
+  try-before = try-at g carried-before source destination
+
+  abbrev try-after : ℕ → Choice Grant
+  try-after = try-at g carried-after source destination
+
   still-carried : (m l : ℕ) → carried-before m l ≡ true → carried-after m l ≡ true
   still-carried m l e =
       carries-tells g after bandwidth duration source destination m l .1
@@ -180,15 +187,17 @@ module _ (g : Graph) (before after : ℕ → ℕ → ℕ) (more : NowhereLower b
   -- So where a start was chosen one is, and it is no later.
   pub chosen-no-later : (low latest : ℕ) (c : Grant) → choose g carried-before source destination low latest ≡ granted c
       → (d : Grant) × (choose g carried-after source destination low latest ≡ granted d) × (d .start ≤ c .start)
-  chosen-no-later low latest c e = by (choice-found g carried-before source destination low latest) (choice-found g carried-after source destination low latest)
+  chosen-no-later low latest c e = by (choice-found try-before low latest) (choice-found try-after low latest)
     where
-      by : ChoiceFound g carried-before source destination low latest → ChoiceFound g carried-after source destination low latest
+      by : ChoiceFound try-before low latest → ChoiceFound try-after low latest
           → (d : Grant) × (choose g carried-after source destination low latest ≡ granted d) × (d .start ≤ c .start)
       by (none-found h q) x = granted≢no-start (sym e ∙ q)
-      by (found b f q) (none-found h r) = clash (stays-possible (b .start) (f .passes)) (h (b .start) (f .low) (omega (arith, f .high)))
-      by (found b f q) (found d i r) =
+      by (found m b f t q) (none-found h r) = clash (stays-possible m (f .passes)) (h m (f .low) (omega (arith, f .high)))
+      by (found m b f t q) (found n d i u r) =
           let same : b ≡ c = cc in
-          (d, r, elim (decLt (b .start) (d .start)) [ yes k ↦ clash (stays-possible (b .start) (f .passes)) (i .before (b .start) (f .low) k) | no k ↦ omega (arith, ap (λ (x : Grant). x .start) same) ])
+          let at-m = grant-starts m (route-at g carried-before source destination m) t in
+          let at-n = grant-starts n (route-at g carried-after source destination n) u in
+          (d, r, elim (decLt m n) [ yes k ↦ clash (stays-possible m (f .passes)) (i .before m (f .low) k) | no k ↦ omega (arith, at-m, at-n, ap (λ (x : Grant). x .start) same) ])
 
 -- What `choose` promises is right, by the figures that the lent tables keep.
 pub promise-right : (s : Search) (es t : List ℕ) (low latest : ℕ) → Askable s es t low latest → s .source ≢ s .destination → s .source ≤ last-node

@@ -22,7 +22,7 @@ use Rattle.choice.specs.declared.StartChoice.the-variants.{Start, Refuse
 use Rattle.choice.specs.declared.Chosen.{Chosen}
 use Rattle.choice.specs.declared.ChoiceRecord.{ChoiceRecord}
 use Rattle.choice.specs.declared.Search.{Search}
-use Rattle.choice.specs.Choice.{Choice, granted, no-start, route-at, possible, choose}
+use Rattle.choice.specs.Choice.{Grant, Choice, granted, no-start, route-at, possible, choose}
 
 -- document 01's 'at least the bandwidth'
 abbrev pub suffices : ℕ → ℕ → Bool
@@ -43,7 +43,7 @@ module _ (s : Search) (es t : List ℕ) where
   abbrev pub possible-for : ℕ → Bool
   possible-for = possible (graph (s .ends)) carried (s .source) (s .destination)
 
-  abbrev pub choice-for : ℕ → ℕ → Choice
+  abbrev pub choice-for : ℕ → ℕ → Choice Grant
   choice-for = choose (graph (s .ends)) carried (s .source) (s .destination)
 
 -- what may be asked: document 01's links, events whose clock is not after low, and a span that ends in time
@@ -66,7 +66,7 @@ abbrev pub refusal : Chosen
 refusal = record { choice = Refused refusals.no-start; path = path-of [] }
 
 -- a choice as it is answered
-abbrev pub chosen : Choice → Chosen
+abbrev pub chosen : Choice Grant → Chosen
 chosen (granted g) = start-with (record { 0 = g .start }) (path-of (g .path))
 chosen no-start = refusal
 

@@ -6,7 +6,7 @@ use Prim.Native.Nat.{ℕ, zero, suc, _<_}
 use native.Mathlib.Omega.{arith}
 use Rattle.units.specs.declared.Link.{Link}
 use Rattle.units.specs.declared.Request.{Request}
-use Rattle.choice.specs.Choice.{Choice, granted, no-start, choose}
+use Rattle.choice.specs.Choice.{Grant, Choice, granted, no-start, choose}
 use Rattle.histories.specs.Kinds.{all-checks}
 use Rattle.histories.proofs.Checks.{Numbered, Verdict, lets, stops, verdict}
 use Rattle.histories.proofs.Demand1.{Refuses}
@@ -19,7 +19,7 @@ use Rattle.rules.proofs.Exits.{own-numbered}
 use Rattle.demands.specs.Demands.{Desk, Demand1, AsksStart, NotOtherwise, RefusalKeeps}
 use Rattle.rules.proofs.Checks.{done≢refuse, starts≢refuse, lists≢refuse, shows≢refuse, refuse-same}
 
-chosen-fits : (c : Choice) → StartOr8 (chosen c)
+chosen-fits : (c : Choice Grant) → StartOr8 (chosen c)
 chosen-fits (granted g) = inl (g, refl)
 chosen-fits no-start = inr refl
 

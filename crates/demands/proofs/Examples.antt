@@ -13,7 +13,7 @@ use Rattle.units.specs.declared.Request.{Request}
 use Rattle.units.specs.Lists.{member, sum, all, select, All}
 use Rattle.units.specs.Search.{firstFrom, allFrom, anyBelow}
 use Rattle.path_search.specs.Paths.{reaches, lowest, fewest, route}
-use Rattle.choice.specs.Choice.{choose, possible}
+use Rattle.choice.specs.Earliest.{can-start, earliest}
 use Rattle.rules.specs.Plain.{Plain, empty, taken}
 use Rattle.rules.specs.Calls.{book, Answer, done, refuse, checked, number-ok, request-ok, own-checks, best}
 use Rattle.histories.specs.Kinds as kinds
@@ -33,15 +33,15 @@ Replies e = (f : ℕ) → e .least ≤ f → f ≤ e .most → replies (e .links
 
 -- the entries without a variable, by computation
 session-replies : Replies session
-unfolding every-kind.replies kinds.answer checked best select member sum choose possible reaches lowest fewest route firstFrom allFrom anyBelow
+unfolding every-kind.replies kinds.answer checked best select member sum earliest can-start reaches lowest fewest route firstFrom allFrom anyBelow
 session-replies f a b = refl
 
 before-low-replies : Replies before-low
-unfolding every-kind.replies kinds.answer checked best select member sum choose possible reaches lowest fewest route firstFrom allFrom anyBelow
+unfolding every-kind.replies kinds.answer checked best select member sum earliest can-start reaches lowest fewest route firstFrom allFrom anyBelow
 before-low-replies f a b = refl
 
 full-book-replies : Replies full-book
-unfolding fill every-kind.replies kinds.answer checked best select member sum choose possible reaches lowest fewest route firstFrom allFrom anyBelow
+unfolding fill every-kind.replies kinds.answer checked best select member sum earliest can-start reaches lowest fewest route firstFrom allFrom anyBelow
 full-book-replies f a b = refl
 
 same-ends-replies : Replies same-ends

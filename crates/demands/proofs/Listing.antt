@@ -16,7 +16,8 @@ use Rattle.units.proofs.Parts.{all-map}
 use Rattle.timeline.proofs.Steady.{NoneBetween}
 use Rattle.path_search.specs.Paths.{reaches, lowest, fewest, Route, route}
 use Rattle.path_search.proofs.Routes.{RouteView, found, no-chain, route-view}
-use Rattle.choice.specs.Choice.{Grant, is-along, possible, choose}
+use Rattle.choice.specs.Earliest.{is-granted, can-start, earliest}
+use Rattle.choice.specs.Choice.{Grant, grant-at, possible}
 use Rattle.listing.specs.Ranges.{Range, rangesFrom, ranges}
 use Rattle.listing.proofs.Theorems.{Possible, listed-once, listed-no-other, ranges-apart, ranges-longest, AtStart, ranges-begin, ranges-fit, empty-iff, first-is-start}
 use Rattle.rules.specs.Plain.{Plain, graph, carries, low}
@@ -48,10 +49,10 @@ module _ (links : List Link) (p : Plain) (r : Request) (o : Obeys links p) (q : 
   possible-at = possible (graph links) (carries links p r) (r .from) (r .to)
 
   pub possible-tells : (m : ℕ) → Tells (possible-at m) ((path : List ℕ) × PathAt links p r m path)
-  unfolding possible
+  unfolding can-start
   possible-tells m = by (route (graph links) (carries links p r m) (r .to) (r .from)) (route-view (graph links) (carries links p r m) (r .to) (r .from) (q .ends-differ) (nodes-below links (o .links-right)) (q .from-right))
     where
-      by : (x : Route) → RouteView (graph links) (carries links p r m) (r .to) (r .from) (q .ends-differ) (nodes-below links (o .links-right)) (q .from-right) x → Tells (is-along x) ((path : List ℕ) × PathAt links p r m path)
+      by : (x : Route) → RouteView (graph links) (carries links p r m) (r .to) (r .from) (q .ends-differ) (nodes-below links (o .links-right)) (q .from-right) x → Tells (is-granted (grant-at m x)) ((path : List ℕ) × PathAt links p r m path)
       by x (found path i) = ((λ e. (path, way-path links p r (q .bandwidth-right .0) m path (i .chain))), λ w. refl)
       by x (no-chain h) = ((λ e. absurd (false≢true e)), λ w. absurd (h (w .0) (path-way links p r (q .bandwidth-right .0) m (w .0) (w .1))))
 
@@ -145,5 +146,5 @@ calls =
 
 pub example : (t : Tables) → sized (only 1) t ≡ true → answers outcome (only 1) t (set-up ∷ map ask calls)
     ≡ done ∷ start-at 3 (0 ∷ []) ∷ lists (record { first = 0; last = 1 } ∷ record { first = 5; last = 6 } ∷ []) ∷ lists [] ∷ refuse 13 ∷ refuse 4 ∷ refuse 5 ∷ []
-unfolding every-kind.replies kinds.answer checked best every ranges rangesFrom select member sum all choose possible reaches lowest fewest route firstFrom allFrom anyBelow
+unfolding every-kind.replies kinds.answer checked best every ranges rangesFrom select member sum all earliest can-start reaches lowest fewest route firstFrom allFrom anyBelow
 example t size = replies-after (only 1) (links-tell (only 1) .0 refl) t size calls

@@ -14,7 +14,7 @@ use Rattle.units.specs.Lists.{member, sum, count-from, equal, rising, all, sele
 use Rattle.units.specs.Search.{firstFrom, allFrom, anyBelow}
 use Rattle.timeline.specs.Events.{insert-rising, later, passed, row-at}
 use Rattle.path_search.specs.Paths.{reaches, lowest, fewest, route, goes-on}
-use Rattle.choice.specs.Choice.{possible, choose}
+use Rattle.choice.specs.Earliest.{can-start, earliest}
 use Rattle.listing.specs.Ranges.{Range, rangesFrom, ranges}
 use Rattle.listing.specs.Right.{Apart}
 use Rattle.rules.specs.Plain.{empty, terms}
@@ -143,7 +143,7 @@ abbrev after : (sham : Sham) → List Call → Moment bandwidth-desk (desk-of sh
 after sham calls = record { before = fresh; start = tt; accepted = set-up-done; calls = calls }
 
 pub not-writes-nothing : ¬ Demand3 (desk-of writes-nothing)
-unfolding now plain left counted kinds.outcome kinds.answer-on kinds.answer checked best member sum choose possible route fewest lowest reaches firstFrom allFrom anyBelow row-at passed sound sound-with tables later insert-rising flatten count-from bookings.by-number bookings.insert-by-number goes-on rising all equal
+unfolding now plain left counted kinds.outcome kinds.answer-on kinds.answer checked best member sum earliest can-start route fewest lowest reaches firstFrom allFrom anyBelow row-at passed sound sound-with tables later insert-rising flatten count-from bookings.by-number bookings.insert-by-number goes-on rising all equal
 not-writes-nothing d =
     let s = d .counts session-links (after writes-nothing (ask (book 7 first) ∷ [])) .as-kept 2 0 (lit< tt) (lit≤ tt) in
     let kept-4 : _≡_ {A = ℕ} 4 (s .0) = s .1 in
@@ -151,7 +151,7 @@ not-writes-nothing d =
     omega arith
 
 pub not-first-only : ¬ Demand3 (desk-of first-only)
-unfolding now plain left counted kinds.outcome kinds.answer-on kinds.answer checked best member sum choose possible route fewest lowest reaches firstFrom allFrom anyBelow row-at passed sound sound-with tables later insert-rising flatten count-from bookings.by-number bookings.insert-by-number goes-on rising all equal
+unfolding now plain left counted kinds.outcome kinds.answer-on kinds.answer checked best member sum earliest can-start route fewest lowest reaches firstFrom allFrom anyBelow row-at passed sound sound-with tables later insert-rising flatten count-from bookings.by-number bookings.insert-by-number goes-on rising all equal
 not-first-only d =
     let s = d .counts session-links (after first-only (ask (book 7 first) ∷ ask (book 9 second) ∷ [])) .as-kept 0 0 (lit< tt) (lit≤ tt) in
     let kept-10 : _≡_ {A = ℕ} 10 (s .0) = s .1 in
@@ -175,7 +175,7 @@ unfolding checked sound sound-with tables later flatten count-from bookings.by-n
 two-pass = refl
 
 listed-apart : desk-of splits session-links fresh (ask (list list-size two-minutes)) .answer ≡ lists (record { first = 0; last = 0 } ∷ record { first = 1; last = 1 } ∷ [])
-unfolding kinds.outcome kinds.answer-on kinds.answer checked every ranges rangesFrom member sum possible route fewest lowest reaches firstFrom allFrom anyBelow row-at passed sound sound-with tables later insert-rising flatten count-from bookings.by-number bookings.insert-by-number goes-on rising all equal
+unfolding kinds.outcome kinds.answer-on kinds.answer checked every ranges rangesFrom member sum can-start route fewest lowest reaches firstFrom allFrom anyBelow row-at passed sound sound-with tables later insert-rising flatten count-from bookings.by-number bookings.insert-by-number goes-on rising all equal
 listed-apart = refl
 
 pub not-splits : ¬ EveryStart (desk-of splits)
@@ -191,7 +191,7 @@ first-stands = tables session-links (put-in (record { number = 7; terms = terms 
 
 offered-again : (f : Answer → Answer) → answers (after-cancelling f) session-links first-stands (ask (offer second) ∷ ask (cancel 7) ∷ ask (offer second) ∷ [])
     ≡ start-at 0 (0 ∷ 1 ∷ []) ∷ done ∷ f (start-at 0 (0 ∷ 1 ∷ [])) ∷ []
-unfolding answers kinds.outcome kinds.answer-on kinds.answer checked best member sum choose possible route fewest lowest reaches firstFrom allFrom anyBelow row-at passed sound sound-with tables later insert-rising flatten count-from bookings.by-number bookings.insert-by-number goes-on rising all equal select
+unfolding answers kinds.outcome kinds.answer-on kinds.answer checked best member sum earliest can-start route fewest lowest reaches firstFrom allFrom anyBelow row-at passed sound sound-with tables later insert-rising flatten count-from bookings.by-number bookings.insert-by-number goes-on rising all equal select
 offered-again f = refl
 
 -- what a desk that has the property would then say

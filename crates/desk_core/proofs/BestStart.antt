@@ -73,11 +73,11 @@ module _ (links : LinkTable) (t : Tables) (f : Fine (links-of links) t) where
     }
 
     -- the choice by the tables, as the chooser promises it
-    abbrev pub by-tables : Choice
+    abbrev pub by-tables : Choice Grant
     by-tables = answers.choice-for (search-of (t .head) links r) (t .events) (t .free) (low (held t) r) (r .latest .0)
 
     -- the choice by the plain book
-    abbrev pub by-book : Choice
+    abbrev pub by-book : Choice Grant
     by-book = choose (graph (links-of links)) (carries (links-of links) (held t) r) (r .from) (r .to) (low (held t) r) (r .latest .0)
 
     -- the links, and what they carry from low on, are the same
@@ -134,7 +134,7 @@ module _ (links : LinkTable) (t : Tables) (f : Fine (links-of links) t) where
     unfolding best
     told a e = ap (λ x. answers.values x) e ∙ by by-tables ∙ ap (λ c. words.granted (desk-chosen c)) same-choice
       where
-        by : (c : Choice) → answers.values (answers.chosen c) ≡ words.granted (desk-chosen c)
+        by : (c : Choice Grant) → answers.values (answers.chosen c) ≡ words.granted (desk-chosen c)
         by (granted g) = refl
         by no-start = refl
 

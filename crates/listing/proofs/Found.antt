@@ -15,10 +15,11 @@ use Rattle.timeline.proofs.Steady.{NoneBetween}
 use Rattle.path_search.specs.Paths.{Graph}
 use Rattle.choice.specs.declared.StartChoice.the-variants.{Start, Refused}
 use Rattle.choice.specs.declared.Chosen.{Chosen}
-use Rattle.choice.specs.Choice.{Choice, possible, choose}
+use Rattle.choice.specs.Choice.{Grant, Choice, route-at, try-at, possible, choose}
 use Rattle.choice.specs.Answer.{chosen}
 use Rattle.choice.proofs.Answers.{started, none-started}
 use Rattle.choice.proofs.Starts.{ChoiceFound, found, none-found, choice-found}
+use Rattle.choice.proofs.Possible.{grant-starts}
 use Rattle.listing.specs.Ranges.{Range, rangesFrom, ranges, figures, list-table, start-or}
 use Rattle.listing.specs.Right.{RunEnd}
 use Rattle.listing.proofs.Laws.{IsRange, AreRanges, fails-first, are-ranges, are-only}
@@ -26,7 +27,7 @@ use Rattle.listing.proofs.Theorems.{ranges-are, ranges-fit}
 
 -- ---- the start of a choice, or the minute after the window
 
-module _ (c : Choice) (a : Chosen) (e : a ≡ chosen c) (after : ℕ) where
+module _ (c : Choice Grant) (a : Chosen) (e : a ≡ chosen c) (after : ℕ) where
   pub start-is : (m : Minute) → a .choice ≡ Start m → m .0 ≡ start-or after c
   start-is m s = let w = started c a e m s in ap (λ (x : Minute). x .0) (w .start-is) ∙ sym (ap (start-or after) (w .is-granted))
 
@@ -42,11 +43,11 @@ pub record NextStart (test : ℕ → Bool) (e end s : ℕ) : Type 0 where
 
 pub next-start : (g : Graph) (carries : ℕ → ℕ → Bool) (from to e latest s : ℕ) → e ≤ suc latest → s ≡ start-or (suc latest) (choose g carries from to e latest)
     → NextStart (possible g carries from to) e (suc latest) s
-next-start g carries from to e latest s h q = by (choice-found g carries from to e latest)
+next-start g carries from to e latest s h q = by (choice-found (try-at g carries from to) e latest)
   where
-    by : ChoiceFound g carries from to e latest → NextStart (possible g carries from to) e (suc latest) s
-    by (found d f p) =
-        let same : s ≡ d .start = q ∙ ap (start-or (suc latest)) p in
+    by : ChoiceFound (try-at g carries from to) e latest → NextStart (possible g carries from to) e (suc latest) s
+    by (found first c f t p) =
+        let same : s ≡ first = q ∙ ap (start-or (suc latest)) p ∙ grant-starts first (route-at g carries from to first) t in
         record {
           not-before = omega (arith, f .low);
           not-past = omega (arith, f .high);
@@ -152,11 +153,11 @@ module _ (g : Graph) (carries : ℕ → ℕ → Bool) (from to low latest first 
 
   -- where the first start is in the window
   in-window : (first ≤ suc latest) × (first ≤ latest → (low ≤ first) × (test first ≡ true))
-  in-window = by (choice-found g carries from to low latest)
+  in-window = by (choice-found (try-at g carries from to) low latest)
     where
-      by : ChoiceFound g carries from to low latest → (first ≤ suc latest) × (first ≤ latest → (low ≤ first) × (test first ≡ true))
-      by (found d f p) =
-          let same : first ≡ d .start = is-first ∙ ap (start-or (suc latest)) p in
+      by : ChoiceFound (try-at g carries from to) low latest → (first ≤ suc latest) × (first ≤ latest → (low ≤ first) × (test first ≡ true))
+      by (found m c f t p) =
+          let same : first ≡ m = is-first ∙ ap (start-or (suc latest)) p ∙ grant-starts m (route-at g carries from to m) t in
           (omega (arith, f .low, f .high), λ h. (omega (arith, f .low), rw same (f .passes)))
       by (none-found f p) = let same : first ≡ suc latest = is-first ∙ ap (start-or (suc latest)) p in (omega arith, λ h. absurd (omega arith))
 

@@ -13,7 +13,8 @@ use Rattle.units.proofs.Tests.{equals}
 use Rattle.units.proofs.Search.{clash}
 use Rattle.path_search.specs.Paths.{Graph}
 use Rattle.path_search.proofs.Agree.{Agree, route-agree}
-use Rattle.choice.specs.Choice.{is-along, possible}
+use Rattle.choice.specs.Earliest.{is-granted, can-start}
+use Rattle.choice.specs.Choice.{grant-at, possible}
 use Rattle.listing.specs.Ranges.{Range, beside, put-first, rangesFrom, ranges}
 
 module _ (test : ℕ → Bool) where
@@ -144,7 +145,7 @@ rangesFrom-agree p q i (suc n) same =
 -- links that agree, and are tested alike in each minute of the window, give the same ranges
 pub ranges-agree : (g h : Graph) (p q : ℕ → ℕ → Bool) (from to low latest : ℕ) → ((m : ℕ) → low ≤ m → m ≤ latest → Agree g h (p m) (q m))
     → ranges g p from to low latest ≡ ranges h q from to low latest
-unfolding ranges possible
+unfolding ranges can-start
 ranges-agree g h p q from to low latest same =
     rangesFrom-agree (possible g p from to) (possible h q from to) low (suc latest - low)
-    (λ m a b. ap is-along (route-agree g h (p m) (q m) (same m a (omega arith)) to from))
+    (λ m a b. ap (λ r. is-granted (grant-at m r)) (route-agree g h (p m) (q m) (same m a (omega arith)) to from))

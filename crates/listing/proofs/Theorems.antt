@@ -18,9 +18,10 @@ use Rattle.timeline.proofs.Events.{later-rises, member-later, rising-member}
 use Rattle.timeline.proofs.Steady.{NoneBetween}
 use Rattle.timeline.proofs.Spans.{last-start, last-start-le, last-start-between, last-start-is}
 use Rattle.path_search.specs.Paths.{Graph}
-use Rattle.choice.specs.Choice.{Grant, granted, no-start, possible, choose}
+use Rattle.choice.specs.Choice.{Grant, granted, no-start, route-at, try-at, possible, choose}
 use Rattle.choice.proofs.Choice.{granted≢no-start}
-use Rattle.choice.proofs.Starts.{choose-none, ChoiceFound, found, none-found, choice-found, possible-back}
+use Rattle.choice.proofs.Starts.{earliest-none, ChoiceFound, found, none-found, choice-found}
+use Rattle.choice.proofs.Possible.{grant-starts, possible-back}
 use Rattle.listing.specs.Ranges.{Range, ranges}
 use Rattle.listing.specs.Right.{ranges-with, Apart}
 use Rattle.listing.proofs.Laws.{IsRange, AreRanges, are-ranges, are-only}
@@ -218,33 +219,32 @@ module _ (g : Graph) (carries : ℕ → ℕ → Bool) (from to low latest : ℕ)
   -- The listing is empty if and only if the choice has no start.
   pub empty-iff : (listed ≡ []) ↔ (choose g carries from to low latest ≡ no-start)
   empty-iff = (
-    (λ e. let none = subst (AreRanges test low end) e ranges-are in choose-none g carries from to low latest (λ m a b. none m a (omega arith))),
-    λ e. none e (choice-found g carries from to low latest),
+    (λ e. let none = subst (AreRanges test low end) e ranges-are in earliest-none (try-at g carries from to) low latest (λ m a b. none m a (omega arith))),
+    λ e. none e (choice-found (try-at g carries from to) low latest),
   )
     where
-      none : choose g carries from to low latest ≡ no-start → ChoiceFound g carries from to low latest → listed ≡ []
-      none e (found d f q) = granted≢no-start (sym q ∙ e)
+      none : choose g carries from to low latest ≡ no-start → ChoiceFound (try-at g carries from to) low latest → listed ≡ []
+      none e (found m d f t q) = granted≢no-start (sym q ∙ e)
       none e (none-found h q) = are-only test low end listed [] ranges-are (λ m a b. h m a (omega arith))
 
   -- The first range's first minute is the choice's start.
   pub first-is-start : (x : Range) (rs : List Range) → listed ≡ x ∷ rs → (d : Grant) → choose g carries from to low latest ≡ granted d → x .first ≡ d .start
-  first-is-start x rs e d q = by (choice-found g carries from to low latest)
+  first-is-start x rs e d q = by (choice-found (try-at g carries from to) low latest)
     where
       is : IsRange test low end x
       is = subst (AreRanges test low end) e ranges-are .0
 
-      by : ChoiceFound g carries from to low latest → x .first ≡ d .start
+      by : ChoiceFound (try-at g carries from to) low latest → x .first ≡ d .start
       by (none-found h p) = granted≢no-start (sym q ∙ p)
-      by (found c f p) =
+      by (found m c f t p) =
           let same : c ≡ d = cc in
-          let first : x .first ≡ c .start = meet c f in
-          first ∙ ap (λ (z : Grant). z .start) same
+          meet m f ∙ sym (grant-starts m (route-at g carries from to m) t) ∙ ap (λ (z : Grant). z .start) same
         where
-          meet : (c : Grant) → IsFirst low (suc latest - low) test (c .start) → x .first ≡ c .start
-          meet c f =
-              elim (decLt (x .first) (c .start)) [
+          meet : (m : ℕ) → IsFirst low (suc latest - low) test m → x .first ≡ m
+          meet m f =
+              elim (decLt (x .first) m) [
                 | yes h ↦ clash (is .passes (x .first) (le-refl _) (is .some)) (f .before (x .first) (is .not-before) h)
-                | no h ↦ elim (decLt (c .start) (x .first)) [ yes k ↦ clash (f .passes) (is .fails-before (c .start) (f .low) k) | no k ↦ omega arith ]
+                | no h ↦ elim (decLt m (x .first)) [ yes k ↦ clash (f .passes) (is .fails-before m (f .low) k) | no k ↦ omega arith ]
               ]
 
   -- ---- where ranges begin, and how many there can be
@@ -269,7 +269,7 @@ module _ (g : Graph) (carries : ℕ → ℕ → Bool) (from to low latest : ℕ)
         behind : (k : ℕ) → x ≡ suc k → test k ≡ false → AtStart x
         behind k q fails =
             elim (decLt s x) [
-              | yes h ↦ clash (possible-back g carries from to c ts back k x (omega arith) (λ y i le. let n = between y i le in omega arith) (b .passes)) fails
+              | yes h ↦ clash (possible-back g carries from to ts back k x (omega arith) (λ y i le. let n = between y i le in omega arith) (b .passes)) fails
               | no h ↦ let same : s ≡ x = omega (arith, le) in subst AtStart same (last-start-is c ts low x early (b .early))
             ]
 

@@ -8,7 +8,7 @@ use Rattle.units.specs.Lists.{padded}
 use Rattle.path_search.specs.Paths.{Graph}
 use Rattle.path_search.specs.Answer.{graph}
 use Rattle.choice.specs.declared.Search.{Search}
-use Rattle.choice.specs.Choice.{Choice, granted, no-start, possible}
+use Rattle.choice.specs.Choice.{Grant, Choice, granted, no-start, possible}
 use Rattle.choice.specs.Answer.{carried}
 
 -- a range of minutes: its first and its last
@@ -50,6 +50,6 @@ abbrev pub list-table : List Range → List ℕ
 list-table rs = padded list-size (figures rs)
 
 -- the start of a choice, or the minute after the window where there is none
-abbrev pub start-or : ℕ → Choice → ℕ
+abbrev pub start-or : ℕ → Choice Grant → ℕ
 start-or after (granted g) = g .start
 start-or after no-start = after

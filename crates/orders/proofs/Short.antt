@@ -11,7 +11,8 @@ use Rattle.units.specs.Search.{Found, at, nothing, firstFrom}
 use Rattle.units.proofs.Search.{IsFirst, firstFrom-found}
 use Rattle.path_search.specs.Paths.{Graph, Route, along, none, reaches, lowest, fewest, route-of, route}
 use Rattle.path_search.proofs.Chains.{lowest-length}
-use Rattle.choice.specs.Choice.{route-at, grant-at, choice-at, possible, choose}
+use Rattle.choice.specs.Earliest.{choice-at, earliest}
+use Rattle.choice.specs.Choice.{route-at, grant-at, try-at, possible, choose}
 use Rattle.layout.specs.declared.Order.the-variants as orders
 use Rattle.layout.specs.declared.OrderRead.{OrderRead}
 use Rattle.layout.specs.declared.OrderRead.the-variants as reads
@@ -39,14 +40,14 @@ route-short g usable target v path e = by (fewest g usable target v) refl e
     by nothing h e = absurd (let y : _≡_ {A = ℕ} 0 1 = cc in omega arith)
 
 choose-short : (g : Graph) (carries : ℕ → ℕ → Bool) (from to low latest : ℕ) → Short (chosen (choose g carries from to low latest))
-unfolding choose
+unfolding earliest
 choose-short g carries from to low latest = by (firstFrom low _ (possible g carries from to))
   where
     along-short : (m : ℕ) (r : Route) → route-at g carries from to m ≡ r → Short (chosen (grant-at m r))
     along-short m (along path) e = route-short g (carries m) to from path e
     along-short m none e = omega arith
 
-    by : (f : Found) → Short (chosen (choice-at g carries from to f))
+    by : (f : Found) → Short (chosen (choice-at (try-at g carries from to) f))
     by (at m) = along-short m (route-at g carries from to m) refl
     by nothing = omega arith
 

@@ -42,7 +42,7 @@ module _ (links : List Link) (p : Plain) (small : length links ≤ most-links) (
   enough = omega (arith, events-few p)
 
   events-sized : length es ≡ most-events
-  events-sized = ap length (r .events-are) ∙ length-padded most-events (events-of p) enough
+  events-sized = ap length (r .events-are) ∙ length-padded 0 most-events (events-of p) enough
 
   free-sized : length t ≡ most-events * most-links
   free-sized = ap length (r .free-are) ∙ length-table (length links) (free links p) small most-events (events-of p) enough

@@ -38,7 +38,7 @@ module _ (columns : LinkTable) (p : Plain) (o : Obeys (links-of columns) p) wher
   unfolding bookings
   counts-right i h =
       let inside : i < length bookings = omega (arith, length-permuted (by-number-is (p .bookings))) in
-      rw (rows-at place place-size bookings _ none i 4 (place-rows bookings short) inside (omega arith)) (all-place Short none bookings i short inside)
+      rw (rows-at 0 place place-size bookings _ none i 4 (place-rows bookings short) inside (omega arith)) (all-place Short none bookings i short inside)
     where
       none : Booking
       none = record { number = 0; terms = record { duration = 0; bandwidth = 0 }; grant = record { start = 0; path = [] } }

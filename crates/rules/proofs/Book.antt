@@ -47,7 +47,7 @@ abbrev pub Short : Booking → Type 0
 Short b = length (b .grant .path) ≤ most-hops
 
 pub length-place : (b : Booking) → Short b → length (place b) ≡ place-size
-length-place b h = omega (arith, length-padded most-hops (b .grant .path) h)
+length-place b h = omega (arith, length-padded 0 most-hops (b .grant .path) h)
 
 pub place-rows : (bs : List Booking) → All Short bs → Rows place place-size bs
 place-rows [] a = tt
@@ -74,7 +74,7 @@ place-behind pre b rest i e s = λ j. record {
     is-path : take (getD (pre ++ whole) (i * place-size + 4) 0) (take most-hops (drop (i * place-size + 5) (pre ++ whole))) ≡ b .grant .path
     is-path =
         ap₂ (λ n (l : List ℕ). take n (take most-hops l)) (figure-behind pre whole (i * place-size) 4 e) (rest-behind pre whole (i * place-size) 5 e)
-        ∙ ap (take (length (b .grant .path))) (take-at (padded most-hops (b .grant .path)) rest most-hops (length-padded most-hops (b .grant .path) s))
+        ∙ ap (take (length (b .grant .path))) (take-at (padded most-hops (b .grant .path)) rest most-hops (length-padded 0 most-hops (b .grant .path) s))
         ∙ take-append-seam (b .grant .path) (replicate (most-hops - length (b .grant .path)) 0)
 
 places-hold : (cs : List Booking) (t pre z : List ℕ) (i : ℕ) → t ≡ pre ++ (flatten (map place cs) ++ z) → length pre ≡ i * place-size → All Short cs → map (booking-at t) (count-from i (length cs)) ≡ cs

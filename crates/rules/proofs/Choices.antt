@@ -27,16 +27,16 @@ use Rattle.rules.proofs.Checks.{starts≢refuse}
 use Rattle.rules.proofs.Tests.{nodes-below, RequestRight}
 
 -- what was chosen, by the answer
-pub chosen-none : (c : Choice) {k : ℕ} → chosen c ≡ refuse k → c ≡ no-start
+pub chosen-none : (c : Choice Grant) {k : ℕ} → chosen c ≡ refuse k → c ≡ no-start
 chosen-none (granted g) e = starts≢refuse e
 chosen-none no-start e = refl
 
-pub chosen-granted : (c : Choice) (g : Grant) → chosen c ≡ starts g → c ≡ granted g
+pub chosen-granted : (c : Choice Grant) (g : Grant) → chosen c ≡ starts g → c ≡ granted g
 chosen-granted (granted h) g e = let q : h ≡ g = cc in ap granted q
 chosen-granted no-start g e = starts≢refuse (sym e)
 
 -- the choice by any figures, span and low
-abbrev pub choice-by : List Link → Request → (ℕ → ℕ → ℕ) → ℕ → ℕ → Choice
+abbrev pub choice-by : List Link → Request → (ℕ → ℕ → ℕ) → ℕ → ℕ → Choice Grant
 choice-by links r figure duration first = choose (graph links) (carries-by figure (r .bandwidth .0) duration) (r .from) (r .to) first (r .latest .0)
 
 module _ (links : List Link) (p : Plain) (r : Request) where
@@ -46,7 +46,7 @@ module _ (links : List Link) (p : Plain) (r : Request) where
   abbrev NoneGranted : Type 0
   NoneGranted = NoGrant (graph links) (carries links p r) (r .from) (r .to) (low p r) (r .latest .0)
 
-  abbrev pub choice : Choice
+  abbrev pub choice : Choice Grant
   choice = choice-by links r (free-for links p r) (span p (terms r)) (low p r)
 
   module _ (asked : 1 ≤ r .bandwidth .0) where
@@ -90,7 +90,7 @@ module _ (links : List Link) (p : Plain) (r : Request) where
     }
 
     -- an answer is right if it is what a right choice says
-    chosen-right : (c : Choice) → ((g : Grant) → (c ≡ granted g) ↔ Granted g) → ((c ≡ no-start) ↔ NoneGranted) → RightChoice links p r (chosen c)
+    chosen-right : (c : Choice Grant) → ((g : Grant) → (c ≡ granted g) ↔ Granted g) → ((c ≡ no-start) ↔ NoneGranted) → RightChoice links p r (chosen c)
     chosen-right (granted x) s n = record {
       start-iff = λ g. ((λ e. let q : x ≡ g = cc in grant-choice g (s g .0 (ap granted q))), λ i. let e = s g .1 (choice-grant g i) in let q : x ≡ g = cc in ap starts q);
       no-start-iff = (starts≢refuse, λ h. absurd (let w = grant-choice x (s x .0 refl) in h (x .start) (x .path) (w .in-window) (w .works)));
@@ -134,6 +134,6 @@ module _ (links : List Link) (p : Plain) (r : Request) where
     unfolding best
     best-elim P f h = by choice refl
       where
-        by : (c : Choice) → choice ≡ c → P (chosen c)
+        by : (c : Choice Grant) → choice ≡ c → P (chosen c)
         by (granted g) e = f g (good-best g e)
         by no-start e = h

@@ -184,8 +184,8 @@ module _ (links : List Link) (p : Plain) (o : Obeys links p) where
     unfolding tables
     tables-sized = sized-tells links (tables links p) .1 (record {
       links-right = count;
-      events-right = length-padded most-events (events-of p) few-events;
+      events-right = length-padded 0 most-events (events-of p) few-events;
       free-right = length-table (length links) (free links p) (count .1) most-events (events-of p) few-events;
-      book-right = length-padded (most-bookings * place-size) (flatten (map place (by-number (p .bookings))))
+      book-right = length-padded 0 (most-bookings * place-size) (flatten (map place (by-number (p .bookings))))
           (rw (length-rows place place-size (by-number (p .bookings)) (place-rows (by-number (p .bookings)) (all-permuted Short (Permᴰ·symm (by-number-is (p .bookings))) all-short)), length-permuted (by-number-is (p .bookings))) (let few = o .not-too-many in omega arith));
     })

@@ -113,7 +113,7 @@ own-checks links p (cancel n) = check refusals.bad-field (number-ok n) ∷ check
 own-checks links p (move-clock m) = check refusals.bad-field (leb m last-minute) ∷ check refusals.clock-back (leb (p .clock) m) ∷ []
 own-checks links p (show l m) = check refusals.bad-field (ltb l (length links) && within (p .clock) last-shown m) ∷ []
 
-abbrev pub chosen : Choice → Answer
+abbrev pub chosen : Choice Grant → Answer
 chosen (granted g) = starts g
 chosen no-start = refuse refusals.no-start
 

@@ -158,7 +158,7 @@ module _ (links : List Link) (p : Plain) (book : List ℕ) where
     place-front =
         let here = place (booking-at book i) in
         let n : length book - i * place-size - (length here + length others) ≡ length book - suc i * place-size - length others = omega arith in
-        padded-append (length book - i * place-size) here others ∙ ap (λ k. here ++ (others ++ replicate k 0)) n
+        padded-append 0 (length book - i * place-size) here others ∙ ap (λ k. here ++ (others ++ replicate k 0)) n
 
     place-put : place (booking-at book i) ≡ figures (booking-in book i) → drop (suc i * place-size) book ≡ padded (length book - suc i * place-size) others
         → drop (i * place-size) book ≡ padded (length book - i * place-size) (place (booking-at book i) ++ others)

@@ -122,9 +122,9 @@ module _ (c m : ℕ) (ts : List ℕ) where
       event-new h a =
           sym
           (ap (padded n) (sym (around h a))
-          ∙ padded-insert n front (m ∷ []) back (omega (arith, enough h a))
+          ∙ padded-insert 0 n front (m ∷ []) back (omega (arith, enough h a))
           ∙ ap₂ (λ i (t : List ℕ). take i t ++ ((m ∷ []) ++ take (n - (i + 1)) (drop i t))) length-front (ap (padded n) joined)
-          ∙ ap (λ k. take (suc place) table ++ ((m ∷ []) ++ take (k - (suc place + 1)) (drop (suc place) table))) (sym (length-padded n (events c ts) (some h a))))
+          ∙ ap (λ k. take (suc place) table ++ ((m ∷ []) ++ take (k - (suc place + 1)) (drop (suc place) table))) (sym (length-padded 0 n (events c ts) (some h a))))
 
       -- the event table with m among the times
       pub with-event-events : with-event m (padded n (events c ts)) ≡ padded n (events c (m ∷ ts))
@@ -136,7 +136,7 @@ module _ (c m : ℕ) (ts : List ℕ) where
 
       module _ (f : ℕ → List ℕ) (k : ℕ) (sized : (e : ℕ) → length (f e) ≡ k) (s : ChangesAt ts f) where
         abbrev all : List ℕ → List ℕ
-        all es = all-rows f k n es
+        all es = all-rows 0 f k n es
 
         -- a copy of the row that stands at i put in behind it
         abbrev copy-in : ℕ → List ℕ → List ℕ
@@ -146,7 +146,7 @@ module _ (c m : ℕ) (ts : List ℕ) where
         row-new h a =
             sym
             (ap all (sym (around h a))
-            ∙ rows-insert f k n front m back (rows f k sized (front ++ (m ∷ back))) (enough h a)
+            ∙ rows-insert 0 f k n front m back (rows f k sized (front ++ (m ∷ back))) (enough h a)
             ∙ ap₂ (λ i (t : List ℕ). take (i * k) t ++ (f m ++ take (n * k - (i * k + k)) (drop (i * k) t))) length-front (ap all joined)
             ∙ ap₂ (λ (p : List ℕ) j. take (suc place * k) t ++ (p ++ take j (drop (suc place * k) t))) (sym copied) count)
           where
@@ -159,19 +159,19 @@ module _ (c m : ℕ) (ts : List ℕ) where
             copied : take k (drop (place * k) t) ≡ f m
             copied =
                 row-piece f k sized place (events c ts) _ inside
-                ∙ ap f (sym (padded-at n (events c ts) place inside) ∙ ap (λ i. getD table i 0) (sym (row-slot n c m ts a)) ∙ held)
+                ∙ ap f (sym (padded-at 0 n (events c ts) place inside) ∙ ap (λ i. getD table i 0) (sym (row-slot n c m ts a)) ∙ held)
                 ∙ steady f c m ts s (omega arith)
 
             size : length t ≡ n * k
             size =
                 let l : length (flatten (map f (events c ts))) ≡ length (events c ts) * k = length-rows f k (events c ts) (rows f k sized (events c ts)) in
-                length-padded (n * k) (flatten (map f (events c ts))) (rw l (mul-le-mul-right k (some h a)))
+                length-padded 0 (n * k) (flatten (map f (events c ts))) (rw l (mul-le-mul-right k (some h a)))
 
             count : n * k - (suc place * k + k) ≡ length t - (suc place * k + length (take k (drop (place * k) t)))
             count = omega (arith, size, ap length copied ∙ sized m)
 
         -- the rows beside it
-        pub with-row-rows : with-row k (padded n (events c ts)) m (all-rows f k n (events c ts)) ≡ all-rows f k n (events c (m ∷ ts))
+        pub with-row-rows : with-row k (padded n (events c ts)) m (all-rows 0 f k n (events c ts)) ≡ all-rows 0 f k n (events c (m ∷ ts))
         with-row-rows = by (arrival c m ts)
           where
             by : Arrival c m ts → with-row k table m (all (events c ts)) ≡ all (events c (m ∷ ts))
@@ -200,7 +200,7 @@ module _ (c start end : ℕ) (ts : List ℕ) (n : ℕ) (few : length (events c (
   with-span-events = ap (with-event start) (with-event-events c end ts n first) ∙ with-event-events c start (end ∷ ts) n few
 
   pub with-span-rows-rows : (f : ℕ → List ℕ) (k : ℕ) → ((e : ℕ) → length (f e) ≡ k) → ChangesAt ts f
-      → with-span-rows k (padded n (events c ts)) start end (all-rows f k n (events c ts)) ≡ all-rows f k n (events c (start ∷ end ∷ ts))
+      → with-span-rows k (padded n (events c ts)) start end (all-rows 0 f k n (events c ts)) ≡ all-rows 0 f k n (events c (start ∷ end ∷ ts))
   unfolding with-span-rows
   with-span-rows-rows f k sized s =
       ap₂ (λ (es rows : List ℕ). with-row k es start rows) (with-event-events c end ts n first) (with-row-rows c end ts n first f k sized s)
@@ -223,7 +223,7 @@ count-of-events n c ts = ap suc (filled-padded c (later c ts) (n - length (event
 -- there is room for more events, where those of the times and the further ones are at most the places
 pub room-of-events : (places c : ℕ) (ts rows : List ℕ) (more : ℕ) → length rows ≡ places * most-links → length (events c ts) + more ≤ places → Room (padded places (events c ts)) rows more
 room-of-events places c ts rows more e h =
-    let n = length-padded places (events c ts) (omega arith) in
+    let n = length-padded 0 places (events c ts) (omega arith) in
     record { some = omega arith; rows-sized = e ∙ ap (λ k. k * most-links) (sym n); room = rw count-of-events (omega arith) }
 
 pub only-clock-events : (places c : ℕ) → only-clock places c ≡ padded places (events c [])

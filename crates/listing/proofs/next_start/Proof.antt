@@ -6,9 +6,9 @@ use native.Mathlib.Omega.{arith}
 use borrow.Author.Needs.{needs}
 use Rattle.free_table.specs.Figures.{kept}
 use Rattle.path_search.specs.Answer.{graph}
-use Rattle.choice.specs.Choice.{choose}
+use Rattle.choice.specs.Choice.{try-at, choose}
 use Rattle.choice.specs.Answer.{carries}
-use Rattle.choice.proofs.Starts.{choose-none}
+use Rattle.choice.proofs.Starts.{earliest-none}
 use Rattle.listing.specs.Ranges.{start-or}
 use Rattle.listing.proofs.Found.{start-is, refused-is}
 use Rattle.listing.proofs.next_start.Statement.{statement}
@@ -21,7 +21,7 @@ returns : tie.Need-returns
 returns c =
     let a = c .before .before .before .before .before .before .args in
     add-one (a .latest .0)
-    ∙ sym (ap (start-or (suc (a .latest .0))) (choose-none (graph (a .search .ends)) (carries (kept (a .events .now) (a .free .now)) (a .search .bandwidth .0) (a .search .span .0)) (a .search .source) (a .search .destination) (a .end .0) (a .latest .0) (λ m early late. absurd (omega (arith, c .before .if1 .taken)))))
+    ∙ sym (ap (start-or (suc (a .latest .0))) (earliest-none (try-at (graph (a .search .ends)) (carries (kept (a .events .now) (a .free .now)) (a .search .bandwidth .0) (a .search .span .0)) (a .search .source) (a .search .destination)) (a .end .0) (a .latest .0) (λ m early late. absurd (omega (arith, c .before .if1 .taken)))))
 
 choose-event-requires : tie.Need-choose-event-requires
 choose-event-requires c κs = let s = c .before .before .before .before .before in (s .pre .0, s .pre .1 (omega (arith, c .if1 .left)))
