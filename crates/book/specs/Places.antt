@@ -17,7 +17,12 @@ use Rattle.book.specs.declared.Standing.the-variants.{At, Nowhere}
 abbrev pub number-at : List ℕ → ℕ → ℕ
 number-at book i = getD book (i * place-size) 0
 
--- document 01's booking at place i: number, start, duration, bandwidth, count of links, and the path with the zeros behind it
+-- document 01's place: the number, start, duration, bandwidth and count of links of a booking, and its path with the zeros behind
+-- it. The order of the figures is said here alone: as they are written,
+abbrev pub figures : Booking → List ℕ
+figures b = b .number ∷ b .start .0 ∷ b .duration .0 ∷ b .bandwidth .0 ∷ b .count ∷ b .links
+
+-- and as they are read, at place i
 abbrev pub booking-in : List ℕ → ℕ → Booking
 booking-in book i = record {
   number = number-at book i;
@@ -27,10 +32,6 @@ booking-in book i = record {
   count = getD book (i * place-size + 4) 0;
   links = take most-hops (drop (i * place-size + 5) book);
 }
-
--- the thirty-six figures of a booking
-abbrev pub figures : Booking → List ℕ
-figures b = b .number ∷ b .start .0 ∷ b .duration .0 ∷ b .bandwidth .0 ∷ b .count ∷ b .links
 
 -- what a search found, as the place where a number stands
 abbrev pub standing : Found → Standing

@@ -1,7 +1,7 @@
 -- The tables after an accepted call: all written anew from the book table of the plain book after it, one booking added to
 -- sound tables, or none at all. Each piece has its law below; here they are put together.
 use mathlib.Core.Path.{_≡_, refl, sym, ap, ap₂, _∙_}
-use mathlib.Core.List.{List, _∷_, flatten}
+use mathlib.Core.List.{List, flatten}
 use mathlib.Core.Bool.{Bool}
 use Prim.Native.Nat.{ℕ, _+_, _*_, _≤_, _<_}
 use native.Mathlib.Omega.{arith}
@@ -22,7 +22,7 @@ use Rattle.units.specs.declared.LinkTable.{LinkTable}
 use Rattle.plain_book.specs.Bookings as plain-book
 use Rattle.rules.specs.Plain.{Plain, empty}
 use Rattle.rules.specs.Calls.{put-in}
-use Rattle.rules.specs.Tables.{Tables, tables, held, place, by-number, head-of, held-by, event-table, free-table, book-table, lent, Fine}
+use Rattle.rules.specs.Tables.{Tables, tables, held, place, head-of, held-by, event-table, free-table, book-table, lent, Fine}
 use Rattle.rules.specs.Sound.{Obeys}
 use Rattle.units.specs.LinkTables.{links-of}
 use Rattle.rebuild.specs.Rebuilding.{release-of, PlaceRight, CanRebuild}
@@ -86,7 +86,7 @@ module _ {links : List Link} {t : Tables} (fine : Fine links t) {number : ℕ} {
   short = g .booking-right .path-right .length-right .1
 
   figures-are : figures (place-of number r start path) ≡ place (booked number r start path)
-  figures-are = ap (λ q. number ∷ start .0 ∷ r .duration .0 ∷ r .bandwidth .0 ∷ q .count ∷ q .links) (g .path-is)
+  figures-are = ap (λ q. figures (place-of number r start q)) (g .path-is)
 
   can-add : CanAdd links (held t) (place-of number r start path)
   can-add = record {
