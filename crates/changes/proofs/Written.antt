@@ -16,8 +16,9 @@ use Rattle.timeline.specs.EventTable.{only-clock}
 use Rattle.timeline.specs.Insertion.{Room}
 use Rattle.free_table.specs.Figures.{all-free}
 use Rattle.path_search.specs.declared.Path.{Path}
+use Rattle.places.specs.Places.{slot}
 use Rattle.book.specs.declared.Booking.{Booking as Place}
-use Rattle.book.specs.Places.{figures, slot, with-booking}
+use Rattle.book.specs.Places.{figures, with-booking}
 use Rattle.units.specs.declared.LinkTable.{LinkTable}
 use Rattle.plain_book.specs.Bookings as plain-book
 use Rattle.rules.specs.Plain.{Plain, empty}
@@ -97,7 +98,7 @@ module _ {links : List Link} {t : Tables} (fine : Fine links t) {number : ℕ} {
   }
 
   -- what `insert_booking` asks, and `add_booking`
-  pub enter-asks : slot number (t .book) (t .head .bookings) < most-bookings
+  pub enter-asks : slot place-size number (t .book) (t .head .bookings) < most-bookings
   enter-asks = slot-inside fine (booked number r start path) short (g .room)
 
   pub grant-asks : Room (t .events) (t .free) 2 × PlaceRight (place-of number r start path)
@@ -105,7 +106,7 @@ module _ {links : List Link} {t : Tables} (fine : Fine links t) {number : ℕ} {
 
   -- and the tables with what they give
   pub entered-tables : {es' t' book' : List ℕ} {answer : Bool} → Adds (release-of (t .head) (place-of number r start path)) (place-of number r start path) (t .events) (t .free) es' t' answer
-      → book' ≡ with-booking (slot number (t .book) (t .head .bookings)) (place-of number r start path) (t .book)
+      → book' ≡ with-booking (slot place-size number (t .book) (t .head .bookings)) (place-of number r start path) (t .book)
       → lent (with-count (t .head) (t .head .bookings + 1)) es' t' book' ≡ tables links (put-in (booked number r start path) (held t))
   entered-tables {es'} {t'} {book'} {answer} a b =
       let more = added links (held t) (place-of number r start path) can-add es' t' answer (rw (events-are fine, free-are fine) at a) in

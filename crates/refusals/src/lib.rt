@@ -1,7 +1,7 @@
 // The checks of the calls, in document 01's order: each function answers the number of the first check that a call does
 // not pass, or 0. Nothing here writes a table.
-use book::Standing;
-use book::find;
+use places::Standing;
+use places::find;
 use soundness::ends_ok;
 use soundness::in_range;
 use soundness::sound;
@@ -23,6 +23,7 @@ use units::MAX_MINUTE;
 use units::MAX_NUMBER;
 use units::Minute;
 use units::NUMBER_STANDS;
+use units::PLACE;
 use units::Request;
 use units::TOO_LATE;
 use units::UNSOUND;
@@ -118,7 +119,7 @@ pub fn book_refusal(head: Head, book: &[u32], number: u32, request: Request) -> 
         return refusal;
     }
     let count = head.bookings as usize;
-    if let Standing::At(_) = find(book, count, number) {
+    if let Standing::At(_) = find(book, PLACE, count, number) {
         return NUMBER_STANDS;
     }
     if BOOKINGS <= count {

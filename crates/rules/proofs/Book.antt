@@ -1,19 +1,21 @@
 -- The book by rising number, its table, and the bookings that the table holds.
 use mathlib.Core.Path.{_≡_, refl, sym, ap, ap₂, _∙_}
 use mathlib.Core.List.{List, [], _∷_, map, map-map, List·Permᴰ, Permᴰ·symm}
-use Prim.Native.Nat.{ℕ, _-_, _≤_, _<_}
+use Prim.Native.Nat.{ℕ, _-_, _*_, _≤_, _<_}
 use native.Mathlib.Omega.{arith}
 use lib.ListN.{length, replicate}
 use lib.Seq.{take-append-seam}
 use Rattle.units.specs.declared.Link.{Link}
-use Rattle.units.specs.Limits.{most-hops, place-size}
+use Rattle.units.specs.Limits.{most-hops, most-bookings, place-size}
 use Rattle.units.specs.Lists.{count-from, All, Distinct}
 use Rattle.units.proofs.Tests.{Rising}
 use Rattle.units.proofs.Permuted.{length-permuted, all-permuted}
 use Rattle.units.proofs.Padded.{length-padded, Rows}
 use Rattle.units.proofs.Parts.{all-map}
-use Rattle.book.specs.Places.{booking-in, only-places}
-use Rattle.book.proofs.Reading.{Reads, read-filled, reads-booking}
+use Rattle.places.specs.Places.{only-places}
+use Rattle.places.proofs.Reading.{Reads, read-filled}
+use Rattle.book.specs.Places.{booking-in}
+use Rattle.book.proofs.Reading.{reads-booking}
 use Rattle.plain_book.proofs.InOrder as order
 use Rattle.rules.specs.Plain.{Booking, Plain, with-book}
 use Rattle.rules.specs.Calls.{numbers}
@@ -65,10 +67,10 @@ booking-again b s = λ j. record {
 }
 
 -- what is read from a table of places
-pub places-read : (bs : List Booking) → All Short bs → map (booking-in (only-places (map place bs))) (count-from 0 (length bs)) ≡ map place-of bs
+pub places-read : (bs : List Booking) → All Short bs → map (booking-in (only-places (most-bookings * place-size) (map place bs))) (count-from 0 (length bs)) ≡ map place-of bs
 places-read bs a =
-    read-filled place booking-in place-of bs (place-rows bs a)
-    (all-map Short (Reads place booking-in place-of) (λ b s. reads-booking (place-of b) (length-padded most-hops (b .grant .path) s)) bs a)
+    read-filled place-size place booking-in place-of (most-bookings * place-size) bs (place-rows bs a)
+    (all-map Short (Reads place-size place booking-in place-of) (λ b s. reads-booking (place-of b) (length-padded most-hops (b .grant .path) s)) bs a)
 
 pub counts-short : (bs : List Booking) → All Short bs → All (λ b. b .count ≤ most-hops) (map place-of bs)
 counts-short [] a = tt

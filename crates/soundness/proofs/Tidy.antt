@@ -16,7 +16,7 @@ use Rattle.units.specs.Lists.{count-from, padded, all, All}
 use Rattle.units.proofs.Tests.{Tells, _&_, at-most, less-than, equals, all-tells, equal-tells, Rising, rising-tells, Side, below, above, side, same-test}
 use Rattle.units.proofs.Padded.{padded-append}
 use Rattle.book.specs.declared.Booking.{Booking as Place}
-use Rattle.book.specs.Places.{number-at, booking-in, figures}
+use Rattle.book.specs.Places.{booking-in, figures}
 use Rattle.book.proofs.Reading.{figures-same, place-split, figures-long}
 use Rattle.rules.specs.Plain.{Booking, Plain}
 use Rattle.rules.specs.Calls.{numbers}
@@ -90,13 +90,13 @@ module _ (links : List Link) (p : Plain) (book : List ℕ) where
   -- the n places from i on obey the rules, the first of them with a number above `last`, and the figures behind them are zero
   unfoldable pub right-from : ℕ → ℕ → ℕ → Bool
   right-from last i zero = zeros-from (i * place-size) book
-  right-from last i (suc n) = ltb last (number-at book i) && tidy (booking-in book i) && booking-ok links p (booking-at book i) && right-from (number-at book i) (suc i) n
+  right-from last i (suc n) = ltb last (booking-at book i .number) && tidy (booking-in book i) && booking-ok links p (booking-at book i) && right-from (booking-at book i .number) (suc i) n
 
   -- one place of the n
   pub right-here : (last i n : ℕ) → i < n
-      → right-from last i (n - i) ≡ (ltb last (number-at book i) && tidy (booking-in book i) && booking-ok links p (booking-at book i) && right-from (number-at book i) (i + 1) (n - (i + 1)))
+      → right-from last i (n - i) ≡ (ltb last (booking-at book i .number) && tidy (booking-in book i) && booking-ok links p (booking-at book i) && right-from (booking-at book i .number) (i + 1) (n - (i + 1)))
   unfolding right-from
-  right-here last i n h = let e : n - i ≡ suc (n - (i + 1)) = omega arith in ap (right-from last i) e ∙ ap (λ j. ltb last (number-at book i) && tidy (booking-in book i) && booking-ok links p (booking-at book i) && right-from (number-at book i) j (n - (i + 1))) (sym (add-one i))
+  right-here last i n h = let e : n - i ≡ suc (n - (i + 1)) = omega arith in ap (right-from last i) e ∙ ap (λ j. ltb last (booking-at book i .number) && tidy (booking-in book i) && booking-ok links p (booking-at book i) && right-from (booking-at book i .number) j (n - (i + 1))) (sym (add-one i))
 
   pub right-past : (last i n : ℕ) → i ≡ n → right-from last i (n - i) ≡ zeros-from (n * place-size) book
   unfolding right-from
@@ -106,18 +106,18 @@ module _ (links : List Link) (p : Plain) (book : List ℕ) where
   pub right-counts : (last i n : ℕ) → right-from last i n ≡ true → (j : ℕ) → i ≤ j → j < i + n → booking-in book j .count ≤ most-hops
   unfolding right-from
   right-counts last i zero e j a b = absurd (omega arith)
-  right-counts last i (suc n) e j a b = by (side i j) (λ h. right-counts (number-at book i) (suc i) n (passed .1) j h (omega arith))
+  right-counts last i (suc n) e j a b = by (side i j) (λ h. right-counts (booking-at book i .number) (suc i) n (passed .1) j h (omega arith))
     where
       all-but-rest : Bool
-      all-but-rest = ltb last (number-at book i) && tidy (booking-in book i) && booking-ok links p (booking-at book i)
+      all-but-rest = ltb last (booking-at book i .number) && tidy (booking-in book i) && booking-ok links p (booking-at book i)
 
-      passed : (all-but-rest ≡ true) × (right-from (number-at book i) (suc i) n ≡ true)
-      passed = and-eq-true-iff all-but-rest (right-from (number-at book i) (suc i) n) .0 e
+      passed : (all-but-rest ≡ true) × (right-from (booking-at book i .number) (suc i) n ≡ true)
+      passed = and-eq-true-iff all-but-rest (right-from (booking-at book i .number) (suc i) n) .0 e
 
       tidy-here : tidy (booking-in book i) ≡ true
       tidy-here =
-          let h = and-eq-true-iff (ltb last (number-at book i) && tidy (booking-in book i)) (booking-ok links p (booking-at book i)) .0 (passed .0) in
-          and-eq-true-iff (ltb last (number-at book i)) (tidy (booking-in book i)) .0 (h .0) .1
+          let h = and-eq-true-iff (ltb last (booking-at book i .number) && tidy (booking-in book i)) (booking-ok links p (booking-at book i)) .0 (passed .0) in
+          and-eq-true-iff (ltb last (booking-at book i .number)) (tidy (booking-in book i)) .0 (h .0) .1
 
       by : Side i j → (i < j → booking-in book j .count ≤ most-hops) → booking-in book j .count ≤ most-hops
       by (below h) behind = behind h
@@ -171,8 +171,8 @@ module _ (links : List Link) (p : Plain) (book : List ℕ) where
       let fits : i * place-size + place-size ≤ length book = omega arith in
       let fewer : (suc i + n) * place-size ≤ length book = omega arith in
       let others = flatten (map place (bookings-from (suc i) n)) in
-      let t = less-than last (number-at book i) & tidy-tells (booking-in book i) (omega (arith, figures-long book i fits)) & booking-tells links p (booking-at book i)
-      & right-tells (number-at book i) (suc i) n fewer in (
+      let t = less-than last (booking-at book i .number) & tidy-tells (booking-in book i) (omega (arith, figures-long book i fits)) & booking-tells links p (booking-at book i)
+      & right-tells (booking-at book i .number) (suc i) n fewer in (
         (λ e. let k = t .0 e in record {
           in-order = (k .0 .0 .0, k .1 .in-order);
           bookings-right = (k .0 .1, k .1 .bookings-right);

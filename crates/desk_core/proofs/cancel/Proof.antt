@@ -60,7 +60,7 @@ find-requires : tie.Need-find-requires
 find-requires c κs = let a = c .before .before .before .before .before .before .before .before .before .before .before .before .args in
     let l = links-of (a .links) in
     let t = lent (a .head) (now (a .events)) (now (a .free)) (now (a .book)) in
-    places-fit (a .links) t (fine l t true (sym (c .before .before .before .before .before .table-refusal .ensures) ∙ c .before .before .before .before .if1 .left))
+    (omega arith, places-fit (a .links) t (fine l t true (sym (c .before .before .before .before .before .table-refusal .ensures) ∙ c .before .before .before .before .if1 .left)))
 
 enum-known-place : tie.Need-enum-known-place
 enum-known-place c = search needs
