@@ -1,4 +1,4 @@
--- The bandwidth desk's place of the book table: thirty-six figures, a booking each. It knows nothing of what is free.
+-- The bandwidth desk's place of a book table: thirty-six figures, a booking each. It knows nothing of what is free.
 use mathlib.Core.List.{List, _∷_}
 use Prim.Native.Nat.{ℕ, _+_, _*_}
 use lib.ListN.{getD, take, drop}
@@ -7,7 +7,7 @@ use Rattle.places.specs.Places.{start-figure, duration-figure, number-at, with-
 use Rattle.book.specs.declared.Booking.{Booking}
 
 -- document 01's place: the number, start, duration, bandwidth and count of links of a booking, and its path with the zeros behind
--- it. The order of the figures is said here alone: as they are written,
+-- it. Their order is said here alone: as they are written,
 abbrev pub figures : Booking → List ℕ
 figures b = b .number ∷ b .start .0 ∷ b .duration .0 ∷ b .bandwidth .0 ∷ b .count ∷ b .links
 

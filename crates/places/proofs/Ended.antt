@@ -11,7 +11,7 @@ use lib.ListN.{length, take, drop, replicate, length-append, length-drop}
 use lib.Seq.{drop-drop, take-at, drop-at, length-take-le}
 use Rattle.units.specs.declared.Head.{Head}
 use Rattle.units.specs.Lists.{count-from, cons-if, select}
-use Rattle.places.specs.Places.{place-in, places-in, stands-at, still-standing, only-places}
+use Rattle.places.specs.Places.{place-in, place-copied, places-in, stands-at, still-standing, only-places}
 
 count-snoc : (i n : ℕ) → count-from i (suc n) ≡ count-from i n ++ ((i + n) ∷ [])
 unfolding count-from
@@ -65,10 +65,6 @@ kept-none size head came = record { few = omega arith; inside = omega arith; cou
 
 pub kept-as : {size : ℕ} {head : Head} {came book after : List ℕ} {kept count place : ℕ} → after ≡ book → count ≡ kept → Kept size head came book kept place → Kept size head came after count place
 kept-as {size} {head} {came} {place = place} e n k = subst₂ (λ (b : List ℕ) i. Kept size head came b i place) (sym e) (sym n) k
-
--- the book with place `from` copied over place `to`
-abbrev pub place-copied : ℕ → ℕ → ℕ → List ℕ → List ℕ
-place-copied size to from book = take (to * size) book ++ (place-in size book from ++ drop (to * size + size) book)
 
 module _ (size : ℕ) (head : Head) (came book : List ℕ) (kept place : ℕ) (k : Kept size head came book kept place) where
   next-behind : drop ((place + 1) * size) book ≡ drop ((place + 1) * size) came

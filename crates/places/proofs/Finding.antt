@@ -16,7 +16,7 @@ use Rattle.places.specs.Places.{number-at, slot-among}
 left-over : (i n : ℕ) → i < n → n - i ≡ suc (n - (i + 1))
 left-over i n h = omega arith
 
--- a place of those that are counted is in the table, and stands before what is behind the last of them
+-- a place below n ends where n places end, or before
 pub place-below : (size : ℕ) {i n : ℕ} → i < n → i * size + size ≤ n * size
 place-below size {i} {n} h =
     let next : i + 1 ≤ n = omega arith in

@@ -71,7 +71,11 @@ module _ (size : ℕ) where
   abbrev pub place-in : List ℕ → ℕ → List ℕ
   place-in book i = take size (drop (i * size) book)
 
-  -- those of each of the first n places
+  -- the book with the figures of place `from` copied over place `to`
+  abbrev pub place-copied : ℕ → ℕ → List ℕ → List ℕ
+  place-copied to from book = take (to * size) book ++ (place-in book from ++ drop (to * size + size) book)
+
+  -- the figures of each of the first n places
   abbrev pub places-in : List ℕ → ℕ → List (List ℕ)
   places-in book n = map (place-in book) (count-from 0 n)
 

@@ -10,8 +10,8 @@ use units::shift_up;
 ghost use mathlib.Core.Path.{_≡_};
 ghost use mathlib.Core.List.{_++_};
 ghost use Prim.Native.Nat.{_+_, _*_, _≤_, _<_};
-ghost use lib.ListN.{length, take, drop, replicate};
-ghost use Rattle.places.specs.Places.{duration-figure, find, slot, with-place, without-place, place-in, stands-at, still-standing, only-places};
+ghost use lib.ListN.{length, drop, replicate};
+ghost use Rattle.places.specs.Places.{duration-figure, find, slot, with-place, without-place, place-in, place-copied, stands-at, still-standing, only-places};
 
 // Where the start and the duration stand in a place; its number stands first.
 pub const START: usize = 1;
@@ -100,7 +100,7 @@ fn stands(book: &[u32], size: usize, place: usize, head: Head) -> bool
 // Copies a place over an earlier one, or over itself.
 fn copy_place(book: &mut [u32], size: usize, to: usize, from: usize)
     requires { ⌜ (to ≤ from) × (from * size + size ≤ length (now book)) ⌝ }
-    ensures { λ _. ⌜ now (book .exit) ≡ take (to * size) (now (book .entry)) ++ (place-in size (now (book .entry)) from ++ drop (to * size + size) (now (book .entry))) ⌝ }
+    ensures { λ _. ⌜ now (book .exit) ≡ place-copied size to from (now (book .entry)) ⌝ }
 {
     let source = from * size;
     let target = to * size;
