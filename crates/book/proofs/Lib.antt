@@ -1,8 +1,3 @@
 -- Laws of the definitions of `specs/`, and the steps of the loops.
-pub mod Finding
-pub mod Copying
-pub mod Writing
-pub mod Ended
 pub mod Reading
-pub mod Found
-pub mod Filled
+pub mod Writing

@@ -1,43 +1,54 @@
--- Reading the places of a book table one after the other: each gives what its figures say, whatever stands around it.
+-- Reading a place of the book: what was written there, and what its figures are.
 use mathlib.Core.Path.{_≡_, refl, sym, ap, ap₂, _∙_}
-use mathlib.Core.List.{List, [], _∷_, _++_, map, flatten, append-assoc}
-use Prim.Native.Nat.{ℕ, suc, _+_, _-_, _*_, _≤_, _<_}
+use mathlib.Core.List.{List, [], _∷_, _++_}
+use Prim.Native.Nat.{ℕ, suc, _+_, _*_, _≤_}
 use native.Mathlib.Omega.{arith}
-use lib.ListN.{length, getD, take, drop, replicate, length-append, length-drop}
-use lib.Seq.{drop-drop, getD-take, getD-drop}
-use Rattle.units.specs.Limits.{most-hops, most-bookings, place-size}
-use Rattle.units.specs.Lists.{count-from, All}
-use Rattle.units.proofs.Padded.{Rows}
-use Rattle.book.specs.Places.{booking-in, figures, place-in, only-places}
+use lib.ListN.{length, getD, take, drop, length-drop, take-append-drop}
+use lib.Seq.{drop-drop, drop-append-add, take-at, length-take-le, getD-at, getD-append-add, getD-drop}
+use Rattle.units.specs.Limits.{most-hops, place-size}
+use Rattle.places.specs.Places.{place-in}
+use Rattle.places.proofs.Reading.{Reads}
+use Rattle.book.specs.declared.Booking.{Booking}
+use Rattle.book.specs.Places.{booking-in, figures}
 
-module _ {A B : Type 0} (f : A → List ℕ) (read : List ℕ → ℕ → B) (is : A → B) where
-  -- from a place with the figures of x, whatever stands before and behind it, the reader reads this
-  abbrev pub Reads : A → Type 0
-  Reads x = (before behind : List ℕ) (i : ℕ) → length before ≡ i * place-size → read (before ++ (f x ++ behind)) i ≡ is x
+-- ---- a place that was written
 
-  read-from : (xs : List A) (t before z : List ℕ) (i : ℕ) → t ≡ before ++ (flatten (map f xs) ++ z) → length before ≡ i * place-size → Rows f place-size xs → All Reads xs
-      → map (read t) (count-from i (length xs)) ≡ map is xs
-  unfolding flatten count-from
-  read-from [] t before z i e l r a = refl
-  read-from (x ∷ xs) t before z i e l r a =
-      ap₂ _∷_ (ap (λ (u : List ℕ). read u i) split ∙ a .0 before behind i l) (read-from xs t (before ++ f x) z (suc i) (split ∙ sym (append-assoc before (f x) behind)) longer (r .1) (a .1))
-    where
-      behind : List ℕ
-      behind = flatten (map f xs) ++ z
+-- a figure and the rest, behind a front of known length
+figure-behind : (before l : List ℕ) (n k : ℕ) → length before ≡ n → getD (before ++ l) (n + k) 0 ≡ getD l k 0
+figure-behind before l n k e = rw (← e) (getD-append-add before l k 0)
 
-      split : t ≡ before ++ (f x ++ behind)
-      split = e ∙ ap (λ (u : List ℕ). before ++ u) (append-assoc (f x) (flatten (map f xs)) z)
+rest-behind : (before l : List ℕ) (n k : ℕ) → length before ≡ n → drop (n + k) (before ++ l) ≡ drop k l
+rest-behind before l n k e = rw (← e) (drop-append-add before l k)
 
-      longer : length (before ++ f x) ≡ suc i * place-size
-      longer = rw length-append (omega (arith, l, r .0))
+-- is read as it was written
+pub reads-booking : (b : Booking) → length (b .links) ≡ most-hops → Reads place-size figures booking-in (λ b. b) b
+reads-booking b long before behind i e = λ j. record {
+  number = getD-at before (b .number) (drop 1 here) 0 from e j;
+  start = record { 0 = figure-behind before here from 1 e j };
+  duration = record { 0 = figure-behind before here from 2 e j };
+  bandwidth = record { 0 = figure-behind before here from 3 e j };
+  count = figure-behind before here from 4 e j;
+  links = (ap (take most-hops) (rest-behind before here from 5 e) ∙ take-at (b .links) behind most-hops long) j;
+}
+  where
+    here : List ℕ
+    here = figures b ++ behind
 
-  -- the places of the filled table, read one after the other
-  pub read-filled : (xs : List A) → Rows f place-size xs → All Reads xs → map (read (only-places (map f xs))) (count-from 0 (length xs)) ≡ map is xs
-  read-filled xs r a = read-from xs (only-places (map f xs)) [] (replicate (most-bookings * place-size - length (flatten (map f xs))) 0) 0 refl refl r a
+    from : ℕ
+    from = i * place-size
 
--- figure k of a place
-pub figure-in : (book : List ℕ) (i k : ℕ) → k < place-size → getD book (i * place-size + k) 0 ≡ getD (place-in book i) k 0
-figure-in book i k h = sym (getD-take place-size (drop (i * place-size) book) k 0 h ∙ getD-drop (i * place-size) book k 0)
+-- so two bookings of the same figures are the same
+pub figures-same : {a b : Booking} → figures a ≡ figures b → a ≡ b
+figures-same e = λ j. record {
+  number = getD (e j) 0 0;
+  start = record { 0 = getD (e j) 1 0 };
+  duration = record { 0 = getD (e j) 2 0 };
+  bandwidth = record { 0 = getD (e j) 3 0 };
+  count = getD (e j) 4 0;
+  links = drop 5 (e j);
+}
+
+-- ---- any place
 
 five-and-rest : (l : List ℕ) → 5 ≤ length l → take place-size l ≡ getD l 0 0 ∷ getD l 1 0 ∷ getD l 2 0 ∷ getD l 3 0 ∷ getD l 4 0 ∷ take most-hops (drop 5 l)
 five-and-rest [] h = absurd (omega arith)
@@ -48,8 +59,7 @@ five-and-rest (a ∷ b ∷ c ∷ d ∷ []) h = absurd (omega arith)
 five-and-rest (a ∷ b ∷ c ∷ d ∷ e ∷ l) h = refl
 
 -- the figures of the booking at a place are those of the place
-pub figures-read : (book : List ℕ) (i : ℕ) → i * place-size + place-size ≤ length book → figures (booking-in book i) ≡ place-in book i
-unfolding booking-in
+pub figures-read : (book : List ℕ) (i : ℕ) → i * place-size + place-size ≤ length book → figures (booking-in book i) ≡ place-in place-size book i
 figures-read book i h = sym (five-and-rest (drop from book) (rw length-drop (omega arith)) ∙ ap₂ _∷_ first (ap₂ _∷_ (figure 1) (ap₂ _∷_ (figure 2) (ap₂ _∷_ (figure 3) (ap₂ _∷_ (figure 4) path)))))
   where
     from : ℕ
@@ -63,3 +73,15 @@ figures-read book i h = sym (five-and-rest (drop from book) (rw length-drop (ome
 
     first : getD (drop from book) 0 0 ≡ getD book from 0
     first = figure 0 ∙ ap (λ n. getD book n 0) (omega arith)
+
+module _ (book : List ℕ) (i : ℕ) (h : i * place-size + place-size ≤ length book) where
+  -- so they stand in front of the next place
+  pub place-split : drop (i * place-size) book ≡ figures (booking-in book i) ++ drop (suc i * place-size) book
+  place-split =
+      let next : i * place-size + place-size ≡ suc i * place-size = omega arith in
+      sym (take-append-drop place-size (drop (i * place-size) book))
+      ∙ ap₂ _++_ (sym (figures-read book i h)) (drop-drop place-size (i * place-size) book ∙ ap (λ n. drop n book) next)
+
+  -- and there are thirty-six of them
+  pub figures-long : length (figures (booking-in book i)) ≡ place-size
+  figures-long = ap length (figures-read book i h) ∙ length-take-le place-size (drop (i * place-size) book) (rw length-drop (omega arith))

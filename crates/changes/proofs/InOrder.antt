@@ -3,7 +3,7 @@
 use mathlib.Core.Path.{_≡_, refl, sym, ap, ap₂, subst, _∙_}
 use mathlib.Core.List.{List, [], _∷_, _++_, Permᴰ·symm}
 use mathlib.Core.Bool.{Bool, true, false, not}
-use Prim.Native.Nat.{ℕ, suc, _+_, _-_, _≤_, _<_}
+use Prim.Native.Nat.{ℕ, suc, _+_, _-_, _*_, _≤_, _<_}
 use native.Mathlib.Omega.{arith}
 use lib.Dec.{leb, ltb, eqb}
 use lib.ListN.{length, take, drop, length-append, length-drop, take-append-drop}
@@ -15,12 +15,13 @@ use Rattle.units.proofs.Tests.{Rising}
 use Rattle.units.proofs.Permuted.{all-permuted}
 use Rattle.units.proofs.Parts.{select-part, map-part, rising-part}
 use Rattle.units.proofs.Padded.{Rows}
+use Rattle.places.specs.declared.Standing.{Standing}
+use Rattle.places.specs.declared.Standing.the-variants.{At}
+use Rattle.places.specs.Places.{find, slot, slot-among, with-place, without-place, still-standing, only-places, further}
+use Rattle.places.proofs.Found.{Place as Found, there, missing}
+use Rattle.places.proofs.Filled.{number-of, filled, find-filled, drop-filled, count-filled, slot-filled, insert-filled, remove-filled}
 use Rattle.book.specs.declared.Booking.{Booking as Place}
-use Rattle.book.specs.declared.Standing.{Standing}
-use Rattle.book.specs.declared.Standing.the-variants.{At}
-use Rattle.book.specs.Places.{figures, find, slot, slot-among, with-booking, without-place, still-standing, only-places, further}
-use Rattle.book.proofs.Found.{Place as Found, there, missing}
-use Rattle.book.proofs.Filled.{number-of, filled, find-filled, drop-filled, count-filled, slot-filled, insert-filled, remove-filled}
+use Rattle.book.specs.Places.{figures, with-booking}
 use Rattle.plain_book.specs.Bookings as plain-book
 use Rattle.rules.specs.Plain.{Booking, with-book, until}
 use Rattle.rules.specs.Calls.{numbers, put-in, take-out, move-to}
@@ -44,6 +45,10 @@ slot-most n (c ∷ cs) = by (leb (c .number) n) (slot-most n cs)
     by false ih = omega arith
 
 -- ---- sound tables
+
+-- the book table of these bookings
+abbrev book-of : List Booking → List ℕ
+book-of = filled place-size most-bookings place
 
 module _ {links : List Link} {t : Tables} (fine : Fine links t) where
   pub sizes : Sized links t
@@ -74,13 +79,13 @@ module _ {links : List Link} {t : Tables} (fine : Fine links t) where
   unfolding tables
   free-are = ap (λ x. x .free) (sound-tables links t (fine .is-sound))
 
-  book-filled : t .book ≡ filled place (held t .bookings)
+  book-filled : t .book ≡ book-of (held t .bookings)
   unfolding tables
-  book-filled = ap (λ x. x .book) (sound-tables links t (fine .is-sound)) ∙ ap (filled place) (by-number-fixed 0 (held t .bookings) in-order)
+  book-filled = ap (λ x. x .book) (sound-tables links t (fine .is-sound)) ∙ ap book-of (by-number-fixed 0 (held t .bookings) in-order)
 
   -- some of the bookings are still in order
-  part-filled : (test : Booking → Bool) → filled place (select test (held t .bookings)) ≡ book-table (with-book (held t) (select test (held t .bookings)))
-  part-filled test = ap (filled place) (sym (by-number-fixed 0 (select test bookings) (rising-part 0 (map-part (λ b. b .number) (select-part test bookings)) in-order)))
+  part-filled : (test : Booking → Bool) → book-of (select test (held t .bookings)) ≡ book-table (with-book (held t) (select test (held t .bookings)))
+  part-filled test = ap book-of (sym (by-number-fixed 0 (select test bookings) (rising-part 0 (map-part (λ b. b .number) (select-part test bookings)) in-order)))
     where
       bookings : List Booking
       bookings = held t .bookings
@@ -90,12 +95,12 @@ module _ {links : List Link} {t : Tables} (fine : Fine links t) where
   -- the place is one of those that are counted, and the book without it is that of the others
   pub record Released (number i : ℕ) : Type 0 where
     pub inside : i < t .head .bookings
-    pub book-is : without-place i (t .book) ≡ book-table (take-out number (held t))
+    pub book-is : without-place place-size i (t .book) ≡ book-table (take-out number (held t))
     pub count-is : t .head .bookings - 1 ≡ length (take-out number (held t) .bookings)
 
-  pub released : (number i : ℕ) → find number (t .book) (t .head .bookings) ≡ At i → Released number i
+  pub released : (number i : ℕ) → find place-size number (t .book) (t .head .bookings) ≡ At i → Released number i
   released number i e =
-      by (subst (Found (number-of place) number bookings) (ap₂ (λ (b : List ℕ) n. find number b n) (sym book-filled) (held-count t) ∙ e) (find-filled place bookings rows-right number)) refl
+      by (subst (Found (number-of place) number bookings) (ap₂ (λ (b : List ℕ) n. find place-size number b n) (sym book-filled) (held-count t) ∙ e) (find-filled place-size most-bookings place bookings rows-right (omega arith) number)) refl
     where
       bookings : List Booking
       bookings = held t .bookings
@@ -112,41 +117,43 @@ module _ {links : List Link} {t : Tables} (fine : Fine links t) where
           record {
             inside = omega arith;
             book-is =
-                ap₂ without-place (sym at) (book-filled ∙ ap (filled place) split)
-                ∙ remove-filled place xs b ys (subst (Rows place place-size) split rows-right) few
-                ∙ ap (filled place) (sym rest)
+                ap₂ (without-place place-size) (sym at) (book-filled ∙ ap book-of split)
+                ∙ remove-filled place-size most-bookings place xs b ys (subst (Rows place place-size) split rows-right) few
+                ∙ ap book-of (sym rest)
                 ∙ part-filled (λ c. not (eqb number (c .number)));
             count-is = omega (arith, ap length rest, length-append xs ys);
           }
 
   -- ---- what has ended dropped
 
-  pub book-moved : (m : ℕ) → only-places (still-standing (with-clock (t .head) m) (t .book) (t .head .bookings)) ≡ book-table (move-to m (held t))
+  pub book-moved : (m : ℕ) → only-places (length (t .book)) (still-standing place-size (with-clock (t .head) m) (t .book) (t .head .bookings)) ≡ book-table (move-to m (held t))
   book-moved m =
-      ap₂ (λ (b : List ℕ) n. only-places (still-standing (with-clock (t .head) m) b n)) book-filled (sym (held-count t))
-      ∙ drop-filled place (held t .bookings) rows-right (with-clock (t .head) m)
+      ap (λ n. only-places n (still-standing place-size (with-clock (t .head) m) (t .book) (t .head .bookings))) (sizes .book-right)
+      ∙ ap₂ (λ (b : List ℕ) n. only-places (most-bookings * place-size) (still-standing place-size (with-clock (t .head) m) b n)) book-filled (sym (held-count t))
+      ∙ drop-filled place-size most-bookings place (held t .bookings) rows-right (with-clock (t .head) m)
       ∙ part-filled (λ b. ltb m (until (held t) b))
 
-  pub count-moved : (m : ℕ) → length (still-standing (with-clock (t .head) m) (t .book) (t .head .bookings)) ≡ length (move-to m (held t) .bookings)
-  count-moved m = ap₂ (λ (b : List ℕ) n. length (still-standing (with-clock (t .head) m) b n)) book-filled (sym (held-count t)) ∙ count-filled place (held t .bookings) rows-right (with-clock (t .head) m)
+  pub count-moved : (m : ℕ) → length (still-standing place-size (with-clock (t .head) m) (t .book) (t .head .bookings)) ≡ length (move-to m (held t) .bookings)
+  count-moved m = ap₂ (λ (b : List ℕ) n. length (still-standing place-size (with-clock (t .head) m) b n)) book-filled (sym (held-count t)) ∙ count-filled place-size most-bookings place (held t .bookings) rows-right (with-clock (t .head) m)
 
   -- ---- a booking put in at the place of its number
 
   module _ (b : Booking) (short : Short b) (room : length (held t .bookings) < most-bookings) where
-    slot-is : slot (b .number) (t .book) (t .head .bookings) ≡ slot-among (b .number) (numbers (held t .bookings))
+    slot-is : slot place-size (b .number) (t .book) (t .head .bookings) ≡ slot-among (b .number) (numbers (held t .bookings))
     slot-is =
-        ap₂ (λ (book : List ℕ) n. slot (b .number) book n) book-filled (sym (held-count t))
-        ∙ slot-filled place (held t .bookings) rows-right (b .number)
+        ap₂ (λ (book : List ℕ) n. slot place-size (b .number) book n) book-filled (sym (held-count t))
+        ∙ slot-filled place-size most-bookings place (held t .bookings) rows-right (omega arith) (b .number)
 
-    pub slot-inside : slot (b .number) (t .book) (t .head .bookings) < most-bookings
+    pub slot-inside : slot place-size (b .number) (t .book) (t .head .bookings) < most-bookings
     slot-inside = omega (arith, slot-is, slot-most (b .number) (held t .bookings))
 
-    pub book-entered : (row : Place) → figures row ≡ place b → with-booking (slot (b .number) (t .book) (t .head .bookings)) row (t .book) ≡ book-table (put-in b (held t))
+    pub book-entered : (row : Place) → figures row ≡ place b → with-booking (slot place-size (b .number) (t .book) (t .head .bookings)) row (t .book) ≡ book-table (put-in b (held t))
     unfolding plain-book.by-number
     book-entered row e =
-        ap₂ (λ i (book : List ℕ). with-booking i row book) (slot-is ∙ sym front) (book-filled ∙ ap (filled place) (sym (take-append-drop k bookings)))
-        ∙ insert-filled place (take k bookings) b (drop k bookings) rows few row e
-        ∙ ap (filled place) (sym ordered)
+        ap₂ (λ i (book : List ℕ). with-booking i row book) (slot-is ∙ sym front) (book-filled ∙ ap book-of (sym (take-append-drop k bookings)))
+        ∙ ap (λ (figures : List ℕ). with-place place-size (length (take k bookings)) figures (book-of (take k bookings ++ drop k bookings))) e
+        ∙ insert-filled place-size most-bookings place (take k bookings) b (drop k bookings) rows few
+        ∙ ap book-of (sym ordered)
       where
         bookings : List Booking
         bookings = held t .bookings

@@ -8,7 +8,7 @@ use lib.ListN.{take, drop}
 use borrow.Author.Tests.{lt-leb, le-leb, eq-eqb, ne-eqb}
 use Rattle.units.specs.Lists.{select, Distinct}
 use Rattle.units.proofs.Tests.{Side, below, above, side}
-use Rattle.book.specs.Places.{slot-among, further}
+use Rattle.places.specs.Places.{slot-among, further}
 use Rattle.rules.specs.Plain.{Booking}
 use Rattle.rules.specs.Calls.{numbers}
 use Rattle.rules.specs.Tables.{insert-by-number}

@@ -1,7 +1,7 @@
 -- The tables after an accepted call: all written anew from the book table of the plain book after it, one booking added to
 -- sound tables, or none at all. Each piece has its law below; here they are put together.
 use mathlib.Core.Path.{_≡_, refl, sym, ap, ap₂, _∙_}
-use mathlib.Core.List.{List, _∷_, flatten}
+use mathlib.Core.List.{List, flatten}
 use mathlib.Core.Bool.{Bool}
 use Prim.Native.Nat.{ℕ, _+_, _*_, _≤_, _<_}
 use native.Mathlib.Omega.{arith}
@@ -16,13 +16,14 @@ use Rattle.timeline.specs.EventTable.{only-clock}
 use Rattle.timeline.specs.Insertion.{Room}
 use Rattle.free_table.specs.Figures.{all-free}
 use Rattle.path_search.specs.declared.Path.{Path}
+use Rattle.places.specs.Places.{slot}
 use Rattle.book.specs.declared.Booking.{Booking as Place}
-use Rattle.book.specs.Places.{figures, slot, with-booking}
+use Rattle.book.specs.Places.{figures, with-booking}
 use Rattle.units.specs.declared.LinkTable.{LinkTable}
 use Rattle.plain_book.specs.Bookings as plain-book
 use Rattle.rules.specs.Plain.{Plain, empty}
 use Rattle.rules.specs.Calls.{put-in}
-use Rattle.rules.specs.Tables.{Tables, tables, held, place, by-number, head-of, held-by, event-table, free-table, book-table, lent, Fine}
+use Rattle.rules.specs.Tables.{Tables, tables, held, place, head-of, held-by, event-table, free-table, book-table, lent, Fine}
 use Rattle.rules.specs.Sound.{Obeys}
 use Rattle.units.specs.LinkTables.{links-of}
 use Rattle.rebuild.specs.Rebuilding.{release-of, PlaceRight, CanRebuild}
@@ -86,7 +87,7 @@ module _ {links : List Link} {t : Tables} (fine : Fine links t) {number : ℕ} {
   short = g .booking-right .path-right .length-right .1
 
   figures-are : figures (place-of number r start path) ≡ place (booked number r start path)
-  figures-are = ap (λ q. number ∷ start .0 ∷ r .duration .0 ∷ r .bandwidth .0 ∷ q .count ∷ q .links) (g .path-is)
+  figures-are = ap (λ q. figures (place-of number r start q)) (g .path-is)
 
   can-add : CanAdd links (held t) (place-of number r start path)
   can-add = record {
@@ -97,7 +98,7 @@ module _ {links : List Link} {t : Tables} (fine : Fine links t) {number : ℕ} {
   }
 
   -- what `insert_booking` asks, and `add_booking`
-  pub enter-asks : slot number (t .book) (t .head .bookings) < most-bookings
+  pub enter-asks : slot place-size number (t .book) (t .head .bookings) < most-bookings
   enter-asks = slot-inside fine (booked number r start path) short (g .room)
 
   pub grant-asks : Room (t .events) (t .free) 2 × PlaceRight (place-of number r start path)
@@ -105,7 +106,7 @@ module _ {links : List Link} {t : Tables} (fine : Fine links t) {number : ℕ} {
 
   -- and the tables with what they give
   pub entered-tables : {es' t' book' : List ℕ} {answer : Bool} → Adds (release-of (t .head) (place-of number r start path)) (place-of number r start path) (t .events) (t .free) es' t' answer
-      → book' ≡ with-booking (slot number (t .book) (t .head .bookings)) (place-of number r start path) (t .book)
+      → book' ≡ with-booking (slot place-size number (t .book) (t .head .bookings)) (place-of number r start path) (t .book)
       → lent (with-count (t .head) (t .head .bookings + 1)) es' t' book' ≡ tables links (put-in (booked number r start path) (held t))
   entered-tables {es'} {t'} {book'} {answer} a b =
       let more = added links (held t) (place-of number r start path) can-add es' t' answer (rw (events-are fine, free-are fine) at a) in

@@ -1,28 +1,29 @@
 // What an accepted call writes: tables that are sound become those of the plain book after the call. Each function answers
 // the head after it. The calls ask first; nothing here refuses.
 use book::Booking;
-use book::Standing;
-use book::drop_ended;
-use book::find;
 use book::insert_booking;
-use book::remove_place;
-use book::slot;
 use free_table::reset_free;
 use path_search::Path;
+use places::Standing;
+use places::drop_ended;
+use places::find;
+use places::remove_place;
+use places::slot;
 use rebuild::add_booking;
 use rebuild::rebuild;
 use timeline::reset_events;
 use units::Head;
 use units::LinkTable;
 use units::Minute;
+use units::PLACE;
 use units::Request;
 use units::clear_from;
 ghost use mathlib.Core.Path.{_≡_};
 ghost use mathlib.Core.Bool.{true};
 ghost use Prim.Native.Nat.{_≤_};
-ghost use Rattle.units.specs.Limits.{last-minute};
-ghost use Rattle.book.specs.declared.Standing.the-variants.{At};
-ghost use Rattle.book.specs.Places.{find};
+ghost use Rattle.units.specs.Limits.{last-minute, place-size};
+ghost use Rattle.places.specs.declared.Standing.the-variants.{At};
+ghost use Rattle.places.specs.Places.{find};
 ghost use Rattle.rules.specs.Plain.{empty};
 ghost use Rattle.rules.specs.Calls.{stands, take-out, move-to, put-in};
 ghost use Rattle.rules.specs.Tables.{held, sizes-ok, tables, lent, Fine};
@@ -55,12 +56,12 @@ fn release_place(
     number: u32,
     place: usize,
 ) -> Head
-    requires { ⌜ Fine (links-of links) (lent head (now events) (now free) (now book)) ⌝ ∗ ⌜ find number (now book) (head .bookings) ≡ At place ⌝ }
+    requires { ⌜ Fine (links-of links) (lent head (now events) (now free) (now book)) ⌝ ∗ ⌜ find place-size number (now book) (head .bookings) ≡ At place ⌝ }
     ensures { λ r. ⌜ (lent r (now (events .exit)) (now (free .exit)) (now (book .exit))) ≡ tables (links-of links) (take-out number (held (lent head (now (events .entry)) (now (free .entry)) (now (book .entry))))) ⌝ }
 {
     let mut after = head;
     after.bookings = head.bookings - 1;
-    remove_place(book, place);
+    remove_place(book, PLACE, place);
     rebuild(after, links, events, free, book);
     after
 }
@@ -77,7 +78,7 @@ pub fn take_out(
     requires { ⌜ Fine (links-of links) (lent head (now events) (now free) (now book)) ⌝ ∗ ⌜ stands number (held (lent head (now events) (now free) (now book)) .bookings) ≡ true ⌝ }
     ensures { λ r. ⌜ (lent r (now (events .exit)) (now (free .exit)) (now (book .exit))) ≡ tables (links-of links) (take-out number (held (lent head (now (events .entry)) (now (free .entry)) (now (book .entry))))) ⌝ }
 {
-    let Standing::At(place) = find(book, head.bookings as usize, number) else {
+    let Standing::At(place) = find(book, PLACE, head.bookings as usize, number) else {
         return head;
     };
     release_place(head, links, events, free, book, number, place)
@@ -97,7 +98,7 @@ pub fn advance(
 {
     let mut after = head;
     after.clock = minute;
-    after.bookings = drop_ended(after, book) as u32;
+    after.bookings = drop_ended(after, book, PLACE) as u32;
     rebuild(after, links, events, free, book);
     after
 }
@@ -128,7 +129,7 @@ pub fn enter(
         count: path.count,
         links: links_of_path,
     };
-    let place = slot(book, head.bookings as usize, number);
+    let place = slot(book, PLACE, head.bookings as usize, number);
     insert_booking(book, place, booking);
     add_booking(head, events, free, booking);
     let mut after = head;

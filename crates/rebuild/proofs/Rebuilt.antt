@@ -65,7 +65,7 @@ module _ (links : List Link) (p : Plain) (b : Place) (can : CanAdd links p b) {e
 -- ---- a booking for each number of a range
 
 module _ {A : Type 0} (f : ℕ → A) (P : A → Type 0) where
-  counted-one : (i n : ℕ) → All P (map f (count-from i n)) → (j : ℕ) → i ≤ j → j < i + n → P (f j)
+  pub counted-one : (i n : ℕ) → All P (map f (count-from i n)) → (j : ℕ) → i ≤ j → j < i + n → P (f j)
   unfolding count-from
   counted-one i zero a j h k = absurd (omega arith)
   counted-one i (suc n) a j h k = by (side i j) (λ l. counted-one (suc i) n (a .1) j (omega arith) (omega arith))

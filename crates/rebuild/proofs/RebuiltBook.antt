@@ -1,25 +1,24 @@
 -- Rebuilding from the book table of a plain book that obeys the rules: it can be done, and gives that plain book's tables.
 use mathlib.Core.Path.{_≡_, sym, ap, _∙_, subst}
-use mathlib.Core.List.{List, []}
+use mathlib.Core.List.{List}
 use Prim.Native.Nat.{ℕ, _*_, _≤_, _<_}
 use native.Mathlib.Omega.{arith}
 use lib.ListN.{length}
-use Rattle.units.specs.Limits.{most-links, most-hops, most-events, place-size}
+use Rattle.units.specs.Limits.{most-links, most-hops, most-events}
 use Rattle.units.specs.Lists.{Within, All}
 use Rattle.units.proofs.Permuted.{length-permuted}
-use Rattle.units.proofs.Padded.{rows-at}
 use Rattle.book.specs.Places.{booking-in}
 use Rattle.units.specs.declared.LinkTable.{LinkTable}
 use Rattle.rules.specs.Plain.{Booking, Plain}
-use Rattle.rules.specs.Tables.{tables, place, by-number, head-of, held-by, event-table, free-table, book-table}
+use Rattle.rules.specs.Tables.{tables, by-number, head-of, held-by, event-table, free-table, book-table}
 use Rattle.rules.specs.Sound.{BookingRight, Obeys}
 use Rattle.units.specs.LinkTables.{links-of}
 use Rattle.rebuild.specs.Rebuilding.{CanRebuild}
-use Rattle.rules.proofs.Book.{by-number-is, Short, place-rows}
+use Rattle.rules.proofs.Book.{by-number-is, Short, places-read, counts-short}
 use Rattle.rules.proofs.Tests.{sized-tells}
 use Rattle.rules.proofs.Obeys.{all-short, Ordered, held-ordered, obeys-ordered, tables-ordered, tables-sized}
 use Rattle.rules.proofs.LinkColumns.{links-count}
-use Rattle.rebuild.proofs.Along.{all-place}
+use Rattle.rebuild.proofs.Rebuilt.{counted-one}
 
 module _ (columns : LinkTable) (p : Plain) (o : Obeys (links-of columns) p) where
   -- the book by rising number, as its table holds it
@@ -37,11 +36,9 @@ module _ (columns : LinkTable) (p : Plain) (o : Obeys (links-of columns) p) wher
   counts-right : (i : ℕ) → i < length (p .bookings) → booking-in (book-table p) i .count ≤ most-hops
   unfolding bookings
   counts-right i h =
-      let inside : i < length bookings = omega (arith, length-permuted (by-number-is (p .bookings))) in
-      rw (rows-at 0 place place-size bookings _ none i 4 (place-rows bookings short) inside (omega arith)) (all-place Short none bookings i short inside)
-    where
-      none : Booking
-      none = record { number = 0; terms = record { duration = 0; bandwidth = 0 }; grant = record { start = 0; path = [] } }
+      counted-one (booking-in (book-table p)) (λ b. b .count ≤ most-hops) 0 (length bookings)
+      (subst (All (λ b. b .count ≤ most-hops)) (sym (places-read bookings short)) (counts-short bookings short))
+      i (omega arith) (omega (arith, length-permuted (by-number-is (p .bookings))))
 
   pub can-rebuild : Within 1 most-links (columns .count) → (es t : List ℕ) → length es ≡ most-events → length t ≡ most-events * most-links
       → CanRebuild columns (head-of (links-of columns) p) (book-table p) es t

@@ -1,11 +1,11 @@
 // The checks of the calls, in document 01's order: each function answers the number of the first check that a call does
 // not pass, or 0. Nothing here writes a table.
-use book::Standing;
-use book::find;
 use limits::in_range;
 use limits::links_right;
 use limits::request_ok;
 use limits::sized;
+use places::Standing;
+use places::find;
 use soundness::sound;
 use units::BAD_FIELD;
 use units::BAD_LINK;
@@ -24,6 +24,7 @@ use units::MAX_SHOWN;
 use units::Minute;
 use units::NOT_STANDING;
 use units::NUMBER_STANDS;
+use units::PLACE;
 use units::Request;
 use units::TOO_LATE;
 use units::UNSOUND;
@@ -75,7 +76,7 @@ pub fn book_refusal(head: Head, book: &[u32], number: u32, request: Request) -> 
         return refusal;
     }
     let count = head.bookings as usize;
-    if let Standing::At(_) = find(book, count, number) {
+    if let Standing::At(_) = find(book, PLACE, count, number) {
         return NUMBER_STANDS;
     }
     if BOOKINGS <= count {
@@ -92,7 +93,7 @@ pub fn cancel_refusal(head: Head, book: &[u32], number: u32) -> u32
     if !in_range(1, MAX_NUMBER, number) {
         return BAD_FIELD;
     }
-    if let Standing::At(_) = find(book, head.bookings as usize, number) {
+    if let Standing::At(_) = find(book, PLACE, head.bookings as usize, number) {
         return 0;
     }
     NOT_STANDING

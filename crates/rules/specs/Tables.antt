@@ -16,7 +16,7 @@ use Rattle.free_table.specs.Figures.{table}
 use Rattle.path_search.specs.Paths.{path-ok}
 use Rattle.plain_book.specs.Bookings as bookings
 use Rattle.book.specs.declared.Booking.{Booking as Place}
-use Rattle.book.specs.Places.{booking-in}
+use Rattle.book.specs.Places.{booking-in, figures}
 use Rattle.rules.specs.Plain.{Booking, Plain, until, times, taken, capacity, graph, free}
 use Rattle.rules.specs.Calls.{Call, set-up-with, ask, Check, check, numbers, ends-ok, number-ok, list-fits}
 
@@ -26,9 +26,28 @@ pub record Tables : Type 0 where
   pub free : List ℕ
   pub book : List ℕ
 
--- a place of the book: number, start, duration, bandwidth, count of links, and thirty-one places of path
+-- what a place of the book holds of a booking
+abbrev pub place-of : Booking → Place
+place-of b = record {
+  number = b .number;
+  start = record { 0 = b .grant .start };
+  duration = record { 0 = b .terms .duration };
+  bandwidth = record { 0 = b .terms .bandwidth };
+  count = length (b .grant .path);
+  links = padded most-hops (b .grant .path);
+}
+
+-- and the booking that a place holds
+abbrev pub booking-of : Place → Booking
+booking-of b = record {
+  number = b .number;
+  terms = record { duration = b .duration .0; bandwidth = b .bandwidth .0 };
+  grant = record { start = b .start .0; path = take (b .count) (b .links) };
+}
+
+-- the figures of a booking's place
 abbrev pub place : Booking → List ℕ
-place b = b .number ∷ b .grant .start ∷ b .terms .duration ∷ b .terms .bandwidth ∷ length (b .grant .path) ∷ padded most-hops (b .grant .path)
+place b = figures (place-of b)
 
 abbrev pub insert-by-number : Booking → List Booking → List Booking
 insert-by-number = bookings.insert-by-number (λ b. b .number)
@@ -55,14 +74,6 @@ book-table p = padded (most-bookings * place-size) (flatten (map place (by-numbe
 -- the only tables that are right for these links and this plain book
 unfoldable pub tables : List Link → Plain → Tables
 tables links p = record { head = head-of links p; events = event-table p; free = free-table links p; book = book-table p }
-
--- the booking that a place's figures hold
-abbrev pub booking-of : Place → Booking
-booking-of b = record {
-  number = b .number;
-  terms = record { duration = b .duration .0; bandwidth = b .bandwidth .0 };
-  grant = record { start = b .start .0; path = take (b .count) (b .links) };
-}
 
 -- the booking at place i of a book table
 abbrev pub booking-at : List ℕ → ℕ → Booking

@@ -8,7 +8,7 @@ use native.Mathlib.Numerals.{add-one}
 use native.Mathlib.Omega.{arith}
 use lib.Dec.{ltb, eqb}
 use lib.ListN.{length, getD, take, drop, replicate, length-take, length-drop, take-append-drop, drop-of-length-le}
-use lib.Seq.{drop-cons, drop-drop, take-at, drop-at, length-take-le}
+use lib.Seq.{drop-cons, take-at, drop-at, length-take-le}
 use Rattle.units.specs.declared.Link.{Link}
 use Rattle.units.specs.declared.Head.{Head}
 use Rattle.units.specs.Limits.{most-hops, most-bookings, place-size}
@@ -16,10 +16,11 @@ use Rattle.units.specs.Lists.{count-from, padded, all, All}
 use Rattle.units.proofs.Tests.{Tells, _&_, at-most, less-than, equals, all-tells, equal-tells, Rising, rising-tells, Side, below, above, side, same-test}
 use Rattle.units.proofs.Padded.{padded-append}
 use Rattle.book.specs.declared.Booking.{Booking as Place}
-use Rattle.book.specs.Places.{number-at, booking-in, figures}
+use Rattle.book.specs.Places.{booking-in, figures}
+use Rattle.book.proofs.Reading.{figures-same, place-split, figures-long}
 use Rattle.rules.specs.Plain.{Booking, Plain}
 use Rattle.rules.specs.Calls.{numbers}
-use Rattle.rules.specs.Tables.{place, booking-of, booking-at, held-by, book-table, booking-ok}
+use Rattle.rules.specs.Tables.{place-of, booking-of, place, booking-at, held-by, book-table, booking-ok}
 use Rattle.rules.specs.Sound.{BookingRight}
 use Rattle.soundness.specs.Checking.{zeros-from, tidy, book-ok, BookFits}
 use Rattle.rules.proofs.Book.{length-place, by-number-fixed}
@@ -58,66 +59,44 @@ module _ (b : Place) (sized : length (b .links) ≡ most-hops) where
   taken-path : b .count ≤ most-hops → length (take (b .count) (b .links)) ≡ b .count
   taken-path h = length-take-le (b .count) (b .links) (omega arith)
 
-  written : b .count ≤ most-hops → drop (b .count) (b .links) ≡ replicate (length (b .links) - b .count) 0 → place (booking-of b) ≡ figures b
-  written h e = ap₂ (λ n (l : List ℕ). b .number ∷ b .start .0 ∷ b .duration .0 ∷ b .bandwidth .0 ∷ n ∷ l) (taken-path h) path
+  written : b .count ≤ most-hops → drop (b .count) (b .links) ≡ replicate (length (b .links) - b .count) 0 → place-of (booking-of b) ≡ b
+  written h e = λ j. record { number = b .number; start = b .start; duration = b .duration; bandwidth = b .bandwidth; count = taken-path h j; links = path j }
     where
       path : padded most-hops (take (b .count) (b .links)) ≡ b .links
       path =
           let n : most-hops - length (take (b .count) (b .links)) ≡ length (b .links) - b .count = omega (arith, taken-path h) in
           ap (λ k. take (b .count) (b .links) ++ replicate k 0) n ∙ ap (λ (l : List ℕ). take (b .count) (b .links) ++ l) (sym e) ∙ take-append-drop (b .count) (b .links)
 
-  few : place (booking-of b) ≡ figures b → b .count ≤ most-hops
-  few e = omega (arith, ap (λ (l : List ℕ). getD l 4 0) e, length-take (b .count) (b .links))
+  few : place-of (booking-of b) ≡ b → b .count ≤ most-hops
+  few e = omega (arith, ap (λ d. d .count) e, length-take (b .count) (b .links))
 
-  rest-zero : place (booking-of b) ≡ figures b → drop (b .count) (b .links) ≡ replicate (length (b .links) - b .count) 0
+  rest-zero : place-of (booking-of b) ≡ b → drop (b .count) (b .links) ≡ replicate (length (b .links) - b .count) 0
   rest-zero e =
       let h = few e in
       let n : most-hops - length (take (b .count) (b .links)) ≡ length (b .links) - b .count = omega (arith, taken-path h) in
-      ap (drop (b .count)) (sym (ap (drop 5) e)) ∙ drop-at (take (b .count) (b .links)) (replicate (most-hops - length (take (b .count) (b .links))) 0) (b .count) (taken-path h) ∙ ap (λ k. replicate k 0) n
+      ap (drop (b .count)) (sym (ap (λ d. d .links) e)) ∙ drop-at (take (b .count) (b .links)) (replicate (most-hops - length (take (b .count) (b .links))) 0) (b .count) (taken-path h) ∙ ap (λ k. replicate k 0) n
 
   tidy-tells : Tells (tidy b) (place (booking-of b) ≡ figures b)
   unfolding tidy
   tidy-tells =
       let t = at-most (b .count) most-hops & zeros-tell (b .count) (b .links) in (
-        (λ e. let h = t .0 e in written (h .0) (h .1)),
-        λ e. t .1 (few e, rest-zero e),
+        (λ e. let h = t .0 e in ap figures (written (h .0) (h .1))),
+        λ e. let same = figures-same e in t .1 (few same, rest-zero same),
       )
 
 -- ---- the places of a book
-
-figure-next : (l : List ℕ) (at k : ℕ) → at + k < length l → drop (at + k) l ≡ getD l (at + k) 0 ∷ drop (at + suc k) l
-figure-next l at k h = let e : suc (at + k) ≡ at + suc k = omega arith in drop-cons l (at + k) 0 h ∙ ap (λ j. getD l (at + k) 0 ∷ drop j l) e
-
-module _ (book : List ℕ) (i : ℕ) (h : i * place-size + place-size ≤ length book) where
-  -- thirty-six figures stand in front of the next place
-  place-split : drop (i * place-size) book ≡ figures (booking-in book i) ++ drop (suc i * place-size) book
-  place-split =
-      let at = i * place-size in
-      let one : suc at ≡ at + 1 = omega arith in
-      let next : at + 5 + most-hops ≡ suc i * place-size = omega arith in
-      drop-cons book at 0 (omega arith)
-      ∙ ap (λ (l : List ℕ). getD book at 0 ∷ l) (ap (λ j. drop j book) one
-      ∙ figure-next book at 1 (omega arith)
-      ∙ ap (λ (l : List ℕ). getD book (at + 1) 0 ∷ l) (figure-next book at 2 (omega arith)
-      ∙ ap (λ (l : List ℕ). getD book (at + 2) 0 ∷ l) (figure-next book at 3 (omega arith)
-      ∙ ap (λ (l : List ℕ). getD book (at + 3) 0 ∷ l) (figure-next book at 4 (omega arith)
-      ∙ ap (λ (l : List ℕ). getD book (at + 4) 0 ∷ l) (sym (take-append-drop most-hops (drop (at + 5) book))
-      ∙ ap (λ (l : List ℕ). take most-hops (drop (at + 5) book) ++ l) (drop-drop most-hops (at + 5) book ∙ ap (λ j. drop j book) next))))))
-
-  path-places : length (booking-in book i .links) ≡ most-hops
-  path-places = length-take-le most-hops (drop (i * place-size + 5) book) (rw length-drop (omega arith))
 
 module _ (links : List Link) (p : Plain) (book : List ℕ) where
   -- the n places from i on obey the rules, the first of them with a number above `last`, and the figures behind them are zero
   unfoldable pub right-from : ℕ → ℕ → ℕ → Bool
   right-from last i zero = zeros-from (i * place-size) book
-  right-from last i (suc n) = ltb last (number-at book i) && tidy (booking-in book i) && booking-ok links p (booking-at book i) && right-from (number-at book i) (suc i) n
+  right-from last i (suc n) = ltb last (booking-at book i .number) && tidy (booking-in book i) && booking-ok links p (booking-at book i) && right-from (booking-at book i .number) (suc i) n
 
   -- one place of the n
   pub right-here : (last i n : ℕ) → i < n
-      → right-from last i (n - i) ≡ (ltb last (number-at book i) && tidy (booking-in book i) && booking-ok links p (booking-at book i) && right-from (number-at book i) (i + 1) (n - (i + 1)))
+      → right-from last i (n - i) ≡ (ltb last (booking-at book i .number) && tidy (booking-in book i) && booking-ok links p (booking-at book i) && right-from (booking-at book i .number) (i + 1) (n - (i + 1)))
   unfolding right-from
-  right-here last i n h = let e : n - i ≡ suc (n - (i + 1)) = omega arith in ap (right-from last i) e ∙ ap (λ j. ltb last (number-at book i) && tidy (booking-in book i) && booking-ok links p (booking-at book i) && right-from (number-at book i) j (n - (i + 1))) (sym (add-one i))
+  right-here last i n h = let e : n - i ≡ suc (n - (i + 1)) = omega arith in ap (right-from last i) e ∙ ap (λ j. ltb last (booking-at book i .number) && tidy (booking-in book i) && booking-ok links p (booking-at book i) && right-from (booking-at book i .number) j (n - (i + 1))) (sym (add-one i))
 
   pub right-past : (last i n : ℕ) → i ≡ n → right-from last i (n - i) ≡ zeros-from (n * place-size) book
   unfolding right-from
@@ -127,18 +106,18 @@ module _ (links : List Link) (p : Plain) (book : List ℕ) where
   pub right-counts : (last i n : ℕ) → right-from last i n ≡ true → (j : ℕ) → i ≤ j → j < i + n → booking-in book j .count ≤ most-hops
   unfolding right-from
   right-counts last i zero e j a b = absurd (omega arith)
-  right-counts last i (suc n) e j a b = by (side i j) (λ h. right-counts (number-at book i) (suc i) n (passed .1) j h (omega arith))
+  right-counts last i (suc n) e j a b = by (side i j) (λ h. right-counts (booking-at book i .number) (suc i) n (passed .1) j h (omega arith))
     where
       all-but-rest : Bool
-      all-but-rest = ltb last (number-at book i) && tidy (booking-in book i) && booking-ok links p (booking-at book i)
+      all-but-rest = ltb last (booking-at book i .number) && tidy (booking-in book i) && booking-ok links p (booking-at book i)
 
-      passed : (all-but-rest ≡ true) × (right-from (number-at book i) (suc i) n ≡ true)
-      passed = and-eq-true-iff all-but-rest (right-from (number-at book i) (suc i) n) .0 e
+      passed : (all-but-rest ≡ true) × (right-from (booking-at book i .number) (suc i) n ≡ true)
+      passed = and-eq-true-iff all-but-rest (right-from (booking-at book i .number) (suc i) n) .0 e
 
       tidy-here : tidy (booking-in book i) ≡ true
       tidy-here =
-          let h = and-eq-true-iff (ltb last (number-at book i) && tidy (booking-in book i)) (booking-ok links p (booking-at book i)) .0 (passed .0) in
-          and-eq-true-iff (ltb last (number-at book i)) (tidy (booking-in book i)) .0 (h .0) .1
+          let h = and-eq-true-iff (ltb last (booking-at book i .number) && tidy (booking-in book i)) (booking-ok links p (booking-at book i)) .0 (passed .0) in
+          and-eq-true-iff (ltb last (booking-at book i .number)) (tidy (booking-in book i)) .0 (h .0) .1
 
       by : Side i j → (i < j → booking-in book j .count ≤ most-hops) → booking-in book j .count ≤ most-hops
       by (below h) behind = behind h
@@ -168,18 +147,15 @@ module _ (links : List Link) (p : Plain) (book : List ℕ) where
       both : figures (booking-in book i) ++ drop (suc i * place-size) book ≡ place (booking-at book i) ++ padded (length book - suc i * place-size) others
       both = sym (place-split book i h) ∙ e ∙ place-front
 
-      as-long : length (figures (booking-in book i)) ≡ place-size
-      as-long = omega (arith, path-places book i h)
-
       place-got : place (booking-at book i) ≡ figures (booking-in book i)
       place-got =
           sym (take-at (place (booking-at book i)) (padded (length book - suc i * place-size) others) place-size long)
           ∙ ap (take place-size) (sym both)
-          ∙ take-at (figures (booking-in book i)) (drop (suc i * place-size) book) place-size as-long
+          ∙ take-at (figures (booking-in book i)) (drop (suc i * place-size) book) place-size (figures-long book i h)
 
       others-got : drop (suc i * place-size) book ≡ padded (length book - suc i * place-size) others
       others-got =
-          sym (drop-at (figures (booking-in book i)) (drop (suc i * place-size) book) place-size as-long)
+          sym (drop-at (figures (booking-in book i)) (drop (suc i * place-size) book) place-size (figures-long book i h))
           ∙ ap (drop place-size) both
           ∙ drop-at (place (booking-at book i)) (padded (length book - suc i * place-size) others) place-size long
 
@@ -195,8 +171,8 @@ module _ (links : List Link) (p : Plain) (book : List ℕ) where
       let fits : i * place-size + place-size ≤ length book = omega arith in
       let fewer : (suc i + n) * place-size ≤ length book = omega arith in
       let others = flatten (map place (bookings-from (suc i) n)) in
-      let t = less-than last (number-at book i) & tidy-tells (booking-in book i) (path-places book i fits) & booking-tells links p (booking-at book i)
-      & right-tells (number-at book i) (suc i) n fewer in (
+      let t = less-than last (booking-at book i .number) & tidy-tells (booking-in book i) (omega (arith, figures-long book i fits)) & booking-tells links p (booking-at book i)
+      & right-tells (booking-at book i .number) (suc i) n fewer in (
         (λ e. let k = t .0 e in record {
           in-order = (k .0 .0 .0, k .1 .in-order);
           bookings-right = (k .0 .1, k .1 .bookings-right);

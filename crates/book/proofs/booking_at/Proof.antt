@@ -3,7 +3,6 @@ use Prim.Native.Nat.{_+_, _*_}
 use borrow.Author.Needs.{needs}
 use lib.ListN.{getD}
 use Rattle.units.specs.Limits.{place-size}
-use Rattle.book.specs.Places.{booking-in}
 use Rattle.book.proofs.booking_at.Statement.{statement}
 use Rattle.book.proofs.booking_at.Tie as tie
 
@@ -59,7 +58,6 @@ path-at-requires : tie.Need-path-at-requires
 path-at-requires c κs = search needs
 
 returns : tie.Need-returns
-unfolding booking-in
 returns c =
     let a = c .before .before .before .before .before .before .before .args in
     let book = a .book .now in

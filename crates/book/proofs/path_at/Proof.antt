@@ -6,7 +6,7 @@ use native.Mathlib.Omega.{arith}
 use lib.ListN.{drop, set, take, replicate, length-drop}
 use lib.Seq.{getD-drop}
 use Rattle.units.specs.Limits.{most-hops}
-use Rattle.book.proofs.Copying.{copied, copied-more}
+use Rattle.places.proofs.Copying.{copied, copied-more}
 use Rattle.book.proofs.path_at.Statement.{statement}
 use Rattle.book.proofs.path_at.Tie as tie
 

@@ -6,7 +6,7 @@ use native.Mathlib.Omega.{arith}
 use lib.ListN.{length, getD, set, drop, length-set}
 use lib.Seq.{take-all}
 use Rattle.units.specs.Limits.{most-hops}
-use Rattle.book.proofs.Copying.{copied, copied-more}
+use Rattle.places.proofs.Copying.{copied, copied-more}
 use Rattle.book.proofs.write_path.Statement.{statement}
 use Rattle.book.proofs.write_path.Tie as tie
 

@@ -28,7 +28,7 @@ obeyed s = obeys-move-to (links-of (s .args .links)) (held (came s)) (s .args .m
 drop-ended-requires : tie.Need-drop-ended-requires
 drop-ended-requires c κs =
     let s = c .before .before .before .before in
-    (few-bookings (s .pre .0), sizes (s .pre .0) .book-right)
+    omega (arith, few-bookings (s .pre .0), sizes (s .pre .0) .book-right)
 
 -- the function's entry, from the book of what still stands
 abbrev entry : tie.After-drop-ended → tie.Start

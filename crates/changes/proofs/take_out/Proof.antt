@@ -1,6 +1,7 @@
 -- `take_out` meets its contract: a number that stands is found.
 use mathlib.Core.Path.{sym, _∙_}
 use mathlib.Core.Bool.{false≢true}
+use native.Mathlib.Omega.{arith}
 use borrow.Author.Needs.{needs}
 use denote.Ref.{now}
 use Rattle.units.specs.LinkTables.{links-of}
@@ -15,7 +16,7 @@ cast-find c = search needs
 find-requires : tie.Need-find-requires
 find-requires c κs =
     let s = c .before .before .before .before .before in
-    places-fit (links-of (s .args .links)) (lent (s .args .head) (now (s .args .events)) (now (s .args .free)) (now (s .args .book))) (s .pre .0)
+    (omega arith, places-fit (links-of (s .args .links)) (lent (s .args .head) (now (s .args .events)) (now (s .args .free)) (now (s .args .book))) (s .pre .0))
 
 enum-known-place : tie.Need-enum-known-place
 enum-known-place c = search needs

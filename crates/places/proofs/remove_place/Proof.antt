@@ -6,11 +6,10 @@ use native.Mathlib.Omega.{arith}
 use borrow.Author.Needs.{needs}
 use lib.ListN.{take, drop, replicate}
 use lib.Seq.{drop-drop}
-use Rattle.units.specs.Limits.{place-size}
 use Rattle.units.proofs.Pieces.{part-back}
-use Rattle.book.specs.Places.{without-place}
-use Rattle.book.proofs.remove_place.Statement.{statement}
-use Rattle.book.proofs.remove_place.Tie as tie
+use Rattle.places.specs.Places.{without-place}
+use Rattle.places.proofs.remove_place.Statement.{statement}
+use Rattle.places.proofs.remove_place.Tie as tie
 
 mul-from : tie.Need-mul-from
 mul-from c = search needs
@@ -37,9 +36,9 @@ returns : tie.Need-returns
 unfolding without-place
 returns c =
     let a = c .before .before .before .before .before .args in
-    let from = a .place * place-size in
-    part-back from (a .book .now) (c .before .before .close-place .last .0) (λ (t : List ℕ). drop place-size t ++ replicate place-size 0) (omega arith) (c .before .before .close-place .ensures)
-    ∙ ap (λ (t : List ℕ). take from (a .book .now) ++ (t ++ replicate place-size 0)) (drop-drop place-size from (a .book .now))
+    let from = a .place * (a .size) in
+    part-back from (a .book .now) (c .before .before .close-place .last .0) (λ (t : List ℕ). drop (a .size) t ++ replicate (a .size) 0) (omega arith) (c .before .before .close-place .ensures)
+    ∙ ap (λ (t : List ℕ). take from (a .book .now) ++ (t ++ replicate (a .size) 0)) (drop-drop (a .size) from (a .book .now))
 
 pub remove-place-spec : {M : Type 1} → statement M
 remove-place-spec =

@@ -11,9 +11,9 @@ use borrow.Author.Tests.{eqb-true, eqb-false, ne-eqb}
 use Rattle.units.specs.Lists.{member, count-from}
 use Rattle.units.specs.Search.{Found, at, nothing, firstFrom}
 use Rattle.units.proofs.Search.{passes?, first-here, first-after}
-use Rattle.book.specs.declared.Standing.{Standing}
-use Rattle.book.specs.declared.Standing.the-variants.{At, Nowhere}
-use Rattle.book.specs.Places.{standing}
+use Rattle.places.specs.declared.Standing.{Standing}
+use Rattle.places.specs.declared.Standing.the-variants.{At, Nowhere}
+use Rattle.places.specs.Places.{standing}
 
 -- here if the test passes, else what is found behind
 abbrev pub found-if : Bool → ℕ → Found → Found

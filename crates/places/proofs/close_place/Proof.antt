@@ -4,16 +4,15 @@ use mathlib.Core.List.{List, _++_}
 use Prim.Native.Nat.{ℕ, _+_, _-_, _≤_}
 use native.Mathlib.Omega.{arith}
 use lib.ListN.{length, getD, set, take, drop, replicate, length-set}
-use Rattle.units.specs.Limits.{place-size}
-use Rattle.book.proofs.Copying.{copied, copied-on, copied-all}
-use Rattle.book.proofs.close_place.Statement.{statement}
-use Rattle.book.proofs.close_place.Tie as tie
+use Rattle.places.proofs.Copying.{copied, copied-on, copied-all}
+use Rattle.places.proofs.close_place.Statement.{statement}
+use Rattle.places.proofs.close_place.Tie as tie
 
 abbrev Inv-loop : tie.InvT-loop
-Inv-loop part₀ kept i₀ part i = (i ≤ kept) × ((length part ≡ length part₀) × (part ≡ copied i (drop place-size part₀) part₀))
+Inv-loop part₀ size kept i₀ part i = (i ≤ kept) × ((length part ≡ length part₀) × (part ≡ copied i (drop size part₀) part₀))
 
 abbrev μ-loop : tie.MeasureT-loop
-μ-loop part₀ kept i₀ part i = kept - i
+μ-loop part₀ size kept i₀ part i = kept - i
 
 sub-kept : tie.Need-sub-kept Inv-loop μ-loop
 sub-kept c = omega arith
@@ -46,7 +45,8 @@ loop-again : tie.Need-loop-again Inv-loop μ-loop
 loop-again c =
     let l = c .before .before .loop in
     let part = c .before .before .before .before .args .part .now in
-    (omega arith, (simp length-set (omega arith), ap (λ (t : List ℕ). set t (l .i) (getD t (l .i + place-size) 0)) (l .inv .1 .1) ∙ copied-on place-size (l .i) part (omega arith)))
+    let size = c .before .before .before .before .args .size in
+    (omega arith, (simp length-set (omega arith), ap (λ (t : List ℕ). set t (l .i) (getD t (l .i + size) 0)) (l .inv .1 .1) ∙ copied-on size (l .i) part (omega arith)))
 
 clear-from-requires : tie.Need-clear-from-requires Inv-loop μ-loop
 clear-from-requires c κs = omega arith
@@ -58,10 +58,11 @@ returns : tie.Need-returns Inv-loop μ-loop
 returns c =
     let l = c .before .before .before .before .before .loop in
     let part = c .before .before .before .before .before .before .before .args .part .now in
-    let kept = length part - place-size in
+    let size = c .before .before .before .before .before .before .before .args .size in
+    let kept = length part - size in
     let e : l .i ≡ kept = omega arith in
-    let z : length (l .part) - kept ≡ place-size = omega arith in
-    let down = ap (take kept) (l .inv .1 .1 ∙ ap (λ i. copied i (drop place-size part) part) e) ∙ copied-all place-size part (omega arith) in
+    let z : length (l .part) - kept ≡ size = omega arith in
+    let down = ap (take kept) (l .inv .1 .1 ∙ ap (λ i. copied i (drop size part) part) e) ∙ copied-all size part (omega arith) in
     c .before .before .clear-from .ensures ∙ ap₂ (λ (t : List ℕ) n. t ++ replicate n 0) down z
 
 pub close-place-spec : {M : Type 1} → statement M
