@@ -1,7 +1,6 @@
 -- What the updates of an accepted call rest on: tables that are sized and sound, and a booking that is granted.
 use mathlib.Core.Path.{_≡_}
 use mathlib.Core.List.{List}
-use mathlib.Core.Bool.{true}
 use Prim.Native.Nat.{ℕ, _<_}
 use lib.ListN.{length, take}
 use Rattle.units.specs.declared.Link.{Link}
@@ -13,7 +12,6 @@ use Rattle.path_search.specs.declared.Path.{Path}
 use Rattle.path_search.specs.Answer.{path-of}
 use Rattle.rules.specs.Plain.{Booking, Plain, terms}
 use Rattle.rules.specs.Calls.{put-in}
-use Rattle.rules.specs.Tables.{Tables, sized, sound}
 use Rattle.rules.specs.Sound.{BookingRight}
 
 -- a head with another clock, and with another number of bookings

@@ -1,12 +1,12 @@
 -- The link records of a session, put into columns one by one: below i each link is read and is the one of its record.
 use mathlib.Core.Path.{_≡_, refl, sym, _∙_, ap}
 use mathlib.Core.List.{List, map}
-use mathlib.Core.Bool.{true, false, not}
+use mathlib.Core.Bool.{false, not}
 use Prim.Native.Nat.{ℕ, zero, suc, _+_, _<_, _≤_}
 use native.Mathlib.Omega.{arith}
 use borrow.Author.Count.{below-more}
 use borrow.Author.Tests.{eq-eqb, ne-eqb}
-use lib.ListN.{length, getD, set, length-set}
+use lib.ListN.{length, length-set}
 use lib.Seq.{getD-set-same, getD-set-other}
 use Rattle.units.specs.Limits.{most-links}
 use Rattle.units.specs.Lists.{count-from}

@@ -16,7 +16,6 @@ use Rattle.layout.specs.Records.{if-passed, link-read}
 use Rattle.layout.specs.Values.{link-values}
 use Rattle.report.specs.declared.Report.{Report}
 use Rattle.report.specs.declared.Report.the-variants.{DeskLinks, DeskRefused}
-use Rattle.units.specs.declared.LinkTable.{LinkTable}
 use Rattle.histories.specs.Kinds as kinds
 use Rattle.rules.specs.Calls.{set-up, values}
 use Rattle.rules.specs.Tables.{Tables}

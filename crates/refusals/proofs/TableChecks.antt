@@ -8,7 +8,6 @@ use lib.ListN.{length}
 use Rattle.units.specs.declared.Link.{Link}
 use Rattle.units.specs.declared.Head.{Head}
 use Rattle.units.specs.Limits.{most-links, most-bookings, most-events, place-size}
-use Rattle.units.specs.Lists.{within}
 use Rattle.units.proofs.Tests.{_&_, in-range, equals}
 use Rattle.units.specs.declared.LinkTable.{LinkTable}
 use Rattle.rules.specs.Calls.{Ask, ask, checked, first-refusal, list-fits}

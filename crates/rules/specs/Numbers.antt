@@ -1,7 +1,6 @@
 -- What the numbers that are handed out tell of an answer: the demands speak of answers, the contracts of the calls hand out
 -- their `values`.
 use mathlib.Core.Path.{_≡_}
-use Prim.Native.Nat.{ℕ}
 use lib.ListN.{length}
 use Rattle.units.specs.Limits.{most-hops}
 use Rattle.units.specs.Lists.{padded}

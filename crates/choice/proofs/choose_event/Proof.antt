@@ -14,11 +14,6 @@ use Rattle.choice.proofs.Starts.{Tried, tried-low, tried-next}
 use Rattle.choice.proofs.Exits.{no-route, askable-at, answer-event, answer-late, answer-left}
 use Rattle.choice.proofs.choose_event.Statement.{statement}
 use Rattle.choice.proofs.choose_event.Tie as tie
-use Rattle.choice.proofs.choose_event.Reads as reads
-use Rattle.choice.proofs.choose_event.Lts as lts
-use Rattle.choice.proofs.path_at.Reads as path-at-reads
-use Rattle.choice.proofs.refused.Reads as refused-reads
-use Rattle.choice.proofs.started.Reads as started-reads
 
 abbrev Inv-loop : tie.InvT-loop
 Inv-loop search events free low latest place₀ place =

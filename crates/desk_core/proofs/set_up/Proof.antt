@@ -1,7 +1,6 @@
 -- `set_up` meets its contract: each way out is one of the outcome's.
-use mathlib.Core.Path.{_≡_, refl, sym, _∙_}
+use mathlib.Core.Path.{refl, sym, _∙_}
 use mathlib.Core.List.{List}
-use lib.ListN.{length}
 use borrow.Author.Needs.{needs}
 use denote.Ref.{now}
 use Rattle.units.specs.declared.Link.{Link}

@@ -2,7 +2,7 @@
 use mathlib.Core.Path.{_≡_, refl, sym, ap, _∙_}
 use mathlib.Core.List.{List}
 use mathlib.Core.Bool.{true}
-use Prim.Native.Nat.{_≤_, _<_}
+use Prim.Native.Nat.{_<_}
 use lib.ListN.{length}
 use borrow.Author.Needs.{needs}
 use denote.Ref.{now}

@@ -1,9 +1,9 @@
 -- `answer_booking` meets its contract: the number that `make_booking` answers decides the report.
-use mathlib.Core.Path.{_≡_, refl, sym, _∙_, ap, subst}
+use mathlib.Core.Path.{ap}
 use denote.Ref.{now}
 use Rattle.units.specs.LinkTables.{links-of}
 use Rattle.rules.specs.Tables.{lent}
-use Rattle.layout.specs.declared.Order.the-variants.{Book, Cancel, Clock, Offer}
+use Rattle.layout.specs.declared.Order.the-variants.{Book}
 use Rattle.report.specs.declared.Report.the-variants as reports
 use Rattle.orders.specs.Ordered.{call-of}
 use Rattle.orders.proofs.Answering.{carried, refused, done}

@@ -1,9 +1,9 @@
 -- `answer_cancel` meets its contract: the number that `cancel` answers decides the report.
-use mathlib.Core.Path.{_≡_, refl, sym, _∙_, ap, subst}
+use mathlib.Core.Path.{refl}
 use denote.Ref.{now}
 use Rattle.units.specs.LinkTables.{links-of}
 use Rattle.rules.specs.Tables.{lent}
-use Rattle.layout.specs.declared.Order.the-variants.{Book, Cancel, Clock, Offer}
+use Rattle.layout.specs.declared.Order.the-variants.{Cancel}
 use Rattle.orders.specs.Ordered.{call-of}
 use Rattle.orders.proofs.Answering.{number-is, refused, done}
 use borrow.Author.Needs.{needs}

@@ -1,9 +1,9 @@
 -- `answer_clock` meets its contract: the number that `move_clock` answers decides the report.
-use mathlib.Core.Path.{_≡_, refl, sym, _∙_, ap, subst}
+use mathlib.Core.Path.{refl}
 use denote.Ref.{now}
 use Rattle.units.specs.LinkTables.{links-of}
 use Rattle.rules.specs.Tables.{lent}
-use Rattle.layout.specs.declared.Order.the-variants.{Book, Cancel, Clock, Offer}
+use Rattle.layout.specs.declared.Order.the-variants.{Clock}
 use Rattle.orders.specs.Ordered.{call-of}
 use Rattle.orders.proofs.Answering.{number-is, refused, done}
 use borrow.Author.Needs.{needs}

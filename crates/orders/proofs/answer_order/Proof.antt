@@ -1,5 +1,5 @@
 -- `answer_order` meets its contract: each arm is the definition's case.
-use mathlib.Core.Path.{_≡_, refl, sym, _∙_, ap, subst}
+use mathlib.Core.Path.{sym, _∙_}
 use denote.Ref.{now}
 use Rattle.units.specs.LinkTables.{links-of}
 use Rattle.rules.specs.Tables.{lent}
