@@ -1,47 +1,23 @@
 -- The desk has demand 1.
-use mathlib.Core.Path.{_≡_, refl, sym, _∙_, subst}
-use mathlib.Core.Logic.{inl, inr, ⊎-elim}
+use mathlib.Core.Path.{_≡_, sym, _∙_, subst}
+use mathlib.Core.Logic.{⊎-elim}
 use mathlib.Core.List.{List}
 use Prim.Native.Nat.{ℕ, zero, suc, _<_}
 use native.Mathlib.Omega.{arith}
 use Rattle.units.specs.declared.Link.{Link}
-use Rattle.units.specs.declared.Request.{Request}
-use Rattle.choice.specs.Choice.{Grant, Choice, granted, no-start, choose}
 use Rattle.histories.specs.Kinds.{all-checks}
 use Rattle.histories.proofs.Checks.{Numbered, Verdict, lets, stops, verdict}
-use Rattle.histories.proofs.Demand1.{Refuses}
 use Rattle.histories.proofs.Demand1 as every-kind
-use Rattle.rules.specs.Plain.{Plain, graph, carries, low, free}
-use Rattle.rules.specs.Calls.{Ask, book, offer, list, cancel, move-clock, show, Call, set-up-with, ask, Answer, done, refuse, values, chosen, best, every, result, StartOr8, InForm}
+use Rattle.rules.specs.Calls.{Ask, book, offer, list, cancel, move-clock, show, Call, set-up-with, ask, Answer, done, refuse, values, StartOr8, InForm}
 use Rattle.rules.specs.Tables.{Tables, held}
 use Rattle.rules.specs.Desk.{bandwidth-desk, outcome}
 use Rattle.rules.proofs.Exits.{own-numbered}
 use Rattle.demands.specs.Demands.{Desk, Demand1, AsksStart, NotOtherwise, RefusalKeeps}
+use Rattle.demands.proofs.Lawful.{lawful}
 use Rattle.rules.proofs.Checks.{done≢refuse, starts≢refuse, lists≢refuse, shows≢refuse, refuse-same}
 
-chosen-fits : (c : Choice Grant) → StartOr8 (chosen c)
-chosen-fits (granted g) = inl (g, refl)
-chosen-fits no-start = inr refl
-
--- the choice of a start is a start or 8
-best-fits : (links : List Link) (p : Plain) (r : Request) → StartOr8 (best links p r)
-unfolding best
-best-fits links p r = chosen-fits (choose (graph links) (carries links p r) (r .from) (r .to) (low p r) (r .latest .0))
-
-in-form : (links : List Link) (p : Plain) (a : Ask) → InForm a (result links p a)
-in-form links p (book n r) = best-fits links p r
-in-form links p (offer r) = best-fits links p r
-in-form links p (list n r) = (every links p r, refl)
-in-form links p (cancel n) = refl
-in-form links p (move-clock m) = refl
-in-form links p (show l m) = (free links p l m, refl)
-
--- what `histories` asks of this kind
-facts : Refuses bandwidth-desk
-facts = record { done-differs = λ k e. done≢refuse e; in-form = in-form }
-
 pub demand1 : Demand1 outcome
-demand1 = every-kind.demand1 bandwidth-desk facts
+demand1 = every-kind.demand1 bandwidth-desk lawful
 
 -- ---- in its other words, of any desk
 

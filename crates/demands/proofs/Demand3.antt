@@ -1,75 +1,8 @@
 -- The desk has demand 3.
-use mathlib.Core.Path.{_≡_, refl, sym, ap, _∙_}
-use mathlib.Core.HLevel.{hedberg}
-use mathlib.Core.Logic.{∥∥₁-elim}
-use mathlib.Core.List.{List, List·Permᴰ}
-use mathlib.Core.Bool.{Bool, true, false, true≢false}
-use Prim.Native.Nat.{ℕ, _≤_, _<_}
-use native.Mathlib.Omega.{arith}
-use lib.ListN.{length}
-use Rattle.units.specs.declared.Link.{Link}
-use Rattle.units.specs.Limits.{most-links, most-events, last-shown}
-use Rattle.units.specs.Lists.{Within}
-use Rattle.units.proofs.Tests.{_&_, less-than, in-range}
-use Rattle.free_table.specs.Figures.{kept}
-use Rattle.free_table.proofs.Figures.{kept-figure}
-use Rattle.histories.specs.Kinds as kinds
-use Rattle.histories.proofs.Demand3.{Lawful}
 use Rattle.histories.proofs.Demand3 as every-kind
-use Rattle.rules.specs.Plain.{Plain, free}
-use Rattle.rules.specs.Calls.{show, shows, refuse, own-checks}
-use Rattle.rules.specs.Tables.{Tables, tables, same}
-use Rattle.rules.specs.Sound.{Obeys}
-use Rattle.rules.specs.Desk.{bandwidth-desk, Agree, answer, outcome}
+use Rattle.rules.specs.Desk.{bandwidth-desk, outcome}
 use Rattle.demands.specs.Demands.{Demand3}
-use Rattle.rules.proofs.Uses.{all-times, free-changes}
-use Rattle.rules.proofs.Checks.{passed-answer}
-use Rattle.rules.proofs.Tests.{same-tells}
-use Rattle.rules.proofs.Obeys.{tables-permuted, tables-sound}
-use Rattle.rules.proofs.Step.{set-up-passed, set-up-leaves, obeys-empty, answers-plain, leaves-plain, stays-obeyed}
-
--- tables are a set: `same` decides whether they are equal
-tables-set : IsSet Tables
-tables-set = hedberg decide
-  where
-    decide : (s t : Tables) → Dec (s ≡ t)
-    decide s t = by (same s t) refl
-      where
-        by : (x : Bool) → same s t ≡ x → Dec (s ≡ t)
-        by true e = yes (same-tells s t .0 e)
-        by false e = no (λ q. true≢false (sym (same-tells s t .1 q) ∙ e))
-
--- plain books that agree have the same tables
-same-tables : (links : List Link) (p q : Plain) → Obeys links p → Agree p q → tables links p ≡ tables links q
-same-tables links p q o a = ∥∥₁-elim (a .1) (tables-set (tables links p) (tables links q)) from-order
-  where
-    from-order : List·Permᴰ (p .bookings) (q .bookings) → tables links p ≡ tables links q
-    from-order s = tables-permuted links p s (o .numbers-differ) ∙ ap (λ c. tables links (record { clock = c; bookings = q .bookings })) (a .0)
-
--- the figure that the tables of a plain book keep is what is free
-pub kept-free : (links : List Link) (p : Plain) → length links ≤ most-links → (l m : ℕ) → l < length links → p .clock ≤ m → kept (tables links p .events) (tables links p .free) l m ≡ free links p l m
-unfolding tables
-kept-free links p small l m h k = kept-figure (length links) (free links p) small most-events (p .clock) (all-times p) l m (free-changes links p l) h k
-
-shown : (links : List Link) (p : Plain) (l m : ℕ) → l < length links → p .clock ≤ m → m ≤ last-shown → answer links p (show l m) ≡ shows (free links p l m)
-unfolding kinds.answer
-shown links p l m b k s = passed-answer refuse (own-checks links p (show l m)) (shows (free links p l m)) ((less-than l (length links) & in-range (p .clock) last-shown m) .1 (b, (k, s)), tt)
-
--- what `histories` asks of this kind
-pub facts : Lawful bandwidth-desk
-facts = record {
-  Started = λ links. Within 1 most-links (length links);
-  Obeys = Obeys;
-  set-up-starts = λ links t s e. let h = set-up-passed links t e in (h .0, obeys-empty links (h .1), set-up-leaves links t e);
-  answers-plain = λ links p c count o. answers-plain links p o count c;
-  leaves-plain = λ links p c count o. leaves-plain links p o count c;
-  stays-obeyed = λ links p c count o. stays-obeyed links p o c;
-  are-sound = λ links p count o. tables-sound links p o;
-  not-oversold = λ links p o. o .not-oversold;
-  kept-free = λ links p count o l m b k. (free links p l m, kept-free links p (count .1) l m b k, omega (arith, o .not-oversold l m b));
-  shown-free = λ links p count o l m b k s. (free links p l m, shown links p l m b k s, omega (arith, o .not-oversold l m b));
-  same-tables = same-tables;
-}
+use Rattle.demands.proofs.Lawful.{lawful}
 
 pub demand3 : Demand3 outcome
-demand3 = every-kind.demand3 bandwidth-desk facts
+demand3 = every-kind.demand3 bandwidth-desk lawful

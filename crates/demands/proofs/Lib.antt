@@ -1,4 +1,5 @@
 -- The theorems of the desk, one module for each. Nothing rests on this crate.
+pub mod Lawful
 pub mod Demand1
 pub mod Demand2
 pub mod Demand3

@@ -12,10 +12,10 @@ use Rattle.rules.specs.Tables.{Tables, sized}
 use Rattle.rules.specs.Desk.{bandwidth-desk, outcome}
 use Rattle.rules.specs.Sound.{LinkRight}
 use Rattle.rules.proofs.Step.{set-up-accepted}
-use Rattle.demands.proofs.Demand3.{facts}
+use Rattle.demands.proofs.Lawful.{lawful}
 
 abbrev pub replies : List Link → Plain → List Ask → List Answer
 replies = every-kind.replies bandwidth-desk
 
 pub replies-after : (links : List Link) → All LinkRight links → (t : Tables) → sized links t ≡ true → (calls : List Ask) → answers outcome links t (set-up ∷ map ask calls) ≡ done ∷ replies links empty calls
-replies-after links right t size calls = every-kind.replies-after bandwidth-desk facts links t tt (set-up-accepted links t size right) calls
+replies-after links right t size calls = every-kind.replies-after bandwidth-desk lawful links t tt (set-up-accepted links t size right) calls

@@ -1,9 +1,9 @@
--- What a list of calls is answered after a set-up, from the plain book alone, for every kind of desk of which one call is lawful.
+-- What a list of calls is answered after a set-up, from the plain book alone, for every lawful kind of desk.
 use mathlib.Core.Path.{_≡_, refl, ap, ap₂, _∙_}
 use mathlib.Core.List.{List, [], _∷_, map}
 use Rattle.histories.specs.Kinds.{set-up-with, ask, Kind, answer, outcome}
 use Rattle.histories.specs.Histories.{answers}
-use Rattle.histories.proofs.Demand3.{Lawful}
+use Rattle.histories.specs.Lawful.{Lawful}
 
 unfoldable pub replies : (K : Kind) → List (K .Link) → K .Plain → List (K .Ask) → List (K .Answer)
 replies K links p [] = []
