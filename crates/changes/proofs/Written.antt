@@ -79,17 +79,17 @@ module _ (columns : LinkTable) {t : Tables} (fine : Fine (links-of columns) t) {
 -- ---- one booking more
 
 -- the place of a granted booking
-abbrev pub place-of : ℕ → Request → Minute → Path → Place
-place-of number r start path = record { number = number; start = start; duration = r .duration; bandwidth = r .bandwidth; count = path .count; links = path .links }
+abbrev pub granted-place : ℕ → Request → Minute → Path → Place
+granted-place number r start path = record { number = number; start = start; duration = r .duration; bandwidth = r .bandwidth; count = path .count; links = path .links }
 
 module _ {links : List Link} {t : Tables} (fine : Fine links t) {number : ℕ} {r : Request} {start : Minute} {path : Path} (g : Grantable links (held t) number r start path) where
   short : length (take (path .count) (path .links)) ≤ most-hops
   short = g .booking-right .path-right .length-right .1
 
-  figures-are : figures (place-of number r start path) ≡ place (booked number r start path)
-  figures-are = ap (λ q. figures (place-of number r start q)) (g .path-is)
+  figures-are : figures (granted-place number r start path) ≡ place (booked number r start path)
+  figures-are = ap (λ q. figures (granted-place number r start q)) (g .path-is)
 
-  can-add : CanAdd links (held t) (place-of number r start path)
+  can-add : CanAdd links (held t) (granted-place number r start path)
   can-add = record {
     few-links = sizes fine .links-right .1;
     room = g .room;
@@ -101,17 +101,17 @@ module _ {links : List Link} {t : Tables} (fine : Fine links t) {number : ℕ} {
   pub enter-asks : slot place-size number (t .book) (t .head .bookings) < most-bookings
   enter-asks = slot-inside fine (booked number r start path) short (g .room)
 
-  pub grant-asks : Room (t .events) (t .free) 2 × PlaceRight (place-of number r start path)
-  grant-asks = rw (events-are fine, free-are fine) (add-asks links (held t) (place-of number r start path) can-add)
+  pub grant-asks : Room (t .events) (t .free) 2 × PlaceRight (granted-place number r start path)
+  grant-asks = rw (events-are fine, free-are fine) (add-asks links (held t) (granted-place number r start path) can-add)
 
   -- and the tables with what they give
-  pub entered-tables : {es' t' book' : List ℕ} {answer : Bool} → Adds (release-of (t .head) (place-of number r start path)) (place-of number r start path) (t .events) (t .free) es' t' answer
-      → book' ≡ with-booking (slot place-size number (t .book) (t .head .bookings)) (place-of number r start path) (t .book)
+  pub entered-tables : {es' t' book' : List ℕ} {answer : Bool} → Adds (release-of (t .head) (granted-place number r start path)) (granted-place number r start path) (t .events) (t .free) es' t' answer
+      → book' ≡ with-booking (slot place-size number (t .book) (t .head .bookings)) (granted-place number r start path) (t .book)
       → lent (with-count (t .head) (t .head .bookings + 1)) es' t' book' ≡ tables links (put-in (booked number r start path) (held t))
   entered-tables {es'} {t'} {book'} {answer} a b =
-      let more = added links (held t) (place-of number r start path) can-add es' t' answer (rw (events-are fine, free-are fine) at a) in
+      let more = added links (held t) (granted-place number r start path) can-add es' t' answer (rw (events-are fine, free-are fine) at a) in
       tables-are links (put-in (booked number r start path) (held t)) one-more (more .events-are) (more .free-are)
-      (b ∙ book-entered fine (booked number r start path) short (g .room) (place-of number r start path) figures-are)
+      (b ∙ book-entered fine (booked number r start path) short (g .room) (granted-place number r start path) figures-are)
     where
       one-more : with-count (t .head) (t .head .bookings + 1) ≡ head-of links (put-in (booked number r start path) (held t))
       one-more = head-is links (put-in (booked number r start path) (held t)) refl (links-are fine) (omega (arith, held-count t))

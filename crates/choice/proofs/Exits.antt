@@ -20,7 +20,8 @@ use Rattle.path_search.specs.Answer.{path-of, answer}
 use Rattle.path_search.proofs.Answers.{route-sized, answer-none}
 use Rattle.choice.specs.declared.Chosen.{Chosen}
 use Rattle.choice.specs.Choice.{Grant, Choice, granted, grant-at, route-at, try-at, possible, choose}
-use Rattle.choice.specs.Answer.{carries, Askable, start-with, refusal, chosen}
+use Rattle.choice.specs.Carrying.{carries}
+use Rattle.choice.specs.Answer.{Askable, start-with, refusal, chosen}
 use Rattle.choice.proofs.Starts.{Tried, earliest-none, earliest-low, earliest-event, earliest-none-left, earliest-too-late, granted-can-start, no-start-cannot}
 use Rattle.choice.proofs.Possible.{possible-back}
 use Rattle.choice.proofs.Lent.{kept-back, event-at}

@@ -15,7 +15,7 @@ use Rattle.free_table.proofs.SpanCheck.{allFrom-agree}
 use Rattle.path_search.specs.Paths.{Graph}
 use Rattle.path_search.proofs.Agree.{Agree, route-agree}
 use Rattle.choice.specs.Choice.{grant-at, try-at, choose}
-use Rattle.choice.specs.Answer.{suffices, carries}
+use Rattle.choice.specs.Carrying.{suffices, carries}
 use Rattle.choice.proofs.Starts.{earliest-agree}
 
 -- links that agree, and are tested alike in each minute of the window, give the same choice

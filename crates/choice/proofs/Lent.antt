@@ -17,7 +17,7 @@ use Rattle.timeline.proofs.Spans.{span-back, span-on}
 use Rattle.free_table.specs.Figures.{kept}
 use Rattle.free_table.specs.Looking.{enough-span}
 use Rattle.free_table.proofs.SpanCheck.{kept-changes, enough-span-kept}
-use Rattle.choice.specs.Answer.{suffices, carries}
+use Rattle.choice.specs.Carrying.{suffices, carries}
 
 module _ (figure : ℕ → ℕ → ℕ) (bandwidth duration : ℕ) where
   abbrev fits : ℕ → ℕ → Bool

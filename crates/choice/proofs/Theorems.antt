@@ -26,7 +26,8 @@ use Rattle.path_search.proofs.Paths.{chain-leads}
 use Rattle.path_search.proofs.Answers.{nodes-below}
 use Rattle.choice.specs.declared.Chosen.{Chosen}
 use Rattle.choice.specs.Choice.{Grant, Choice, granted, route-at, try-at, possible, choose}
-use Rattle.choice.specs.Answer.{suffices, carries, choice-for, Askable, start-with, refusal, chosen}
+use Rattle.choice.specs.Carrying.{suffices, carries}
+use Rattle.choice.specs.Answer.{choice-for, Askable, start-with, refusal, chosen}
 use Rattle.choice.specs.Right.{NowhereLower, FreeThroughout, CarriedBy, Best, NonePossible, Right, best, none-possible}
 use Rattle.choice.proofs.Choice.{granted≢no-start, IsGrant, is-grant-only, ChoiceView, grants, grants-none, choose-view}
 use Rattle.choice.proofs.Starts.{ChoiceFound, found, none-found, choice-found}

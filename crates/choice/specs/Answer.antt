@@ -3,34 +3,25 @@ use mathlib.Core.Path.{_≡_}
 use mathlib.Core.List.{List, []}
 use mathlib.Core.Bool.{Bool}
 use Prim.Native.Nat.{ℕ, _≤_}
-use lib.Dec.{leb}
 use lib.ListN.{length}
 use Rattle.units.specs.declared.Minute.{Minute}
 use Rattle.units.specs.Limits.{last-shown}
 use Rattle.units.specs.Lists.{padded}
 use Rattle.units.specs.Refusals as refusals
 use Rattle.units.specs.Spans.{release}
-use Rattle.units.specs.Search.{allFrom}
 use Rattle.timeline.specs.Events.{events}
 use Rattle.free_table.specs.Figures.{kept}
 use Rattle.free_table.specs.Looking.{TablesSized}
 use Rattle.path_search.specs.Paths.{Route}
 use Rattle.path_search.specs.declared.Path.{Path}
 use Rattle.path_search.specs.Answer.{InRange, graph, path-of}
+use Rattle.choice.specs.Carrying.{carries}
 use Rattle.choice.specs.declared.StartChoice.{StartChoice}
 use Rattle.choice.specs.declared.StartChoice.the-variants.{Start, Refused}
 use Rattle.choice.specs.declared.Chosen.{Chosen}
 use Rattle.choice.specs.declared.ChoiceRecord.{ChoiceRecord}
 use Rattle.choice.specs.declared.Search.{Search}
 use Rattle.choice.specs.Choice.{Grant, Choice, granted, no-start, route-at, possible, choose}
-
--- document 01's 'at least the bandwidth'
-abbrev pub suffices : ℕ → ℕ → Bool
-suffices bandwidth free = leb bandwidth free
-
--- document 01's 'at least the bandwidth free in every minute of the span', of link l and the span that starts at m
-abbrev pub carries : (ℕ → ℕ → ℕ) → ℕ → ℕ → ℕ → ℕ → Bool
-carries figure bandwidth duration m l = allFrom m duration (λ k. suffices bandwidth (figure l k))
 
 -- a search on lent tables: what links carry, the route of a start, whether it is possible, and the choice of low to latest
 module _ (s : Search) (es t : List ℕ) where

@@ -18,7 +18,7 @@ use Rattle.rules.specs.Plain.{no-link, link}
 use Rattle.rules.specs.Calls.{Call, values}
 use Rattle.rules.specs.Tables.{Tables, sized}
 use Rattle.rules.specs.Desk.{outcome}
-use Rattle.desk_core.specs.Lent.{granted, listed, list-left, shown, granted-answer, listed-answer, list-after, shown-answer, refusal-answer, tables-after}
+use Rattle.desk_core.specs.Lent.{choice-shown, listed, list-left, shown, choice-answer, listed-answer, list-after, shown-answer, refusal-answer, tables-after}
 use Rattle.units.specs.LinkTables.{link-at, links-of, column, columns, table-of, empty-table, with-link, at-most-64}
 use Rattle.rules.proofs.LinkColumns.{links-count, link-column}
 use Rattle.rules.proofs.Exits.{unsized}
@@ -139,9 +139,9 @@ module _ (xs : List Link) (t : Tables) (c : Call) where
   outcome-same : outcome (links-of (table-of xs)) t c ≡ outcome xs t c
   outcome-same = outcome-same-at (ltb most-links (length xs)) refl
 
-  pub granted-answer-same : granted-answer (links-of (table-of xs)) t c ≡ granted-answer xs t c
-  unfolding granted-answer
-  granted-answer-same = ap (λ o. granted (o .answer)) outcome-same
+  pub choice-answer-same : choice-answer (links-of (table-of xs)) t c ≡ choice-answer xs t c
+  unfolding choice-answer
+  choice-answer-same = ap (λ o. choice-shown (o .answer)) outcome-same
 
   pub listed-answer-same : listed-answer (links-of (table-of xs)) t c ≡ listed-answer xs t c
   unfolding listed-answer

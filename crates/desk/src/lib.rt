@@ -28,7 +28,7 @@ ghost use Rattle.rules.specs.Plain.{no-link};
 ghost use Rattle.rules.specs.Calls.{Ask, set-up, ask};
 ghost use Rattle.units.specs.LinkTables.{table-of};
 ghost use Rattle.rules.specs.Tables.{lent};
-ghost use Rattle.desk_core.specs.Lent.{granted-answer, listed-answer, list-after, shown-answer, refusal-answer, tables-after};
+ghost use Rattle.desk_core.specs.Lent.{choice-answer, listed-answer, list-after, shown-answer, refusal-answer, tables-after};
 
 // Link `i` of the list.
 fn link_at(links: &[Link], i: usize) -> Link
@@ -84,7 +84,7 @@ pub extern "C" fn gcr_book(
     request: Request,
 ) -> ChoiceRecord
     ensures { λ r. ⌜ (let t = lent (now (head .entry)) (now (events .entry)) (now (free .entry)) (now (book .entry)) in
-        (r ≡ granted-answer (now (links .entry)) t (ask (Ask.book number request)))
+        (r ≡ choice-answer (now (links .entry)) t (ask (Ask.book number request)))
         × (lent (now (head .exit)) (now (events .exit)) (now (free .exit)) (now (book .exit)) ≡ tables-after (now (links .entry)) t (ask (Ask.book number request)))) ⌝ }
 {
     let table = link_table(links);
@@ -103,7 +103,7 @@ pub extern "C" fn gcr_offer(
     book: &[u32],
     request: Request,
 ) -> ChoiceRecord
-    ensures { λ r. ⌜ r ≡ granted-answer (now (links .entry)) (lent (now (head .entry)) (now (events .entry)) (now (free .entry)) (now (book .entry))) (ask (Ask.offer request)) ⌝ }
+    ensures { λ r. ⌜ r ≡ choice-answer (now (links .entry)) (lent (now (head .entry)) (now (events .entry)) (now (free .entry)) (now (book .entry))) (ask (Ask.offer request)) ⌝ }
 {
     let table = link_table(links);
     offer(*head, table, events, free, book, request)

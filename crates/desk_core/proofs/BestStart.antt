@@ -130,11 +130,11 @@ module _ (links : LinkTable) (t : Tables) (f : Fine (links-of links) t) where
     best-none e = ap desk-chosen e
 
     -- and its record
-    pub told : (a : Chosen) → a ≡ answers.chosen by-tables → answers.values a ≡ words.granted (best (links-of links) (held t) r)
+    pub told : (a : Chosen) → a ≡ answers.chosen by-tables → answers.values a ≡ words.choice-shown (best (links-of links) (held t) r)
     unfolding best
-    told a e = ap (λ x. answers.values x) e ∙ by by-tables ∙ ap (λ c. words.granted (desk-chosen c)) same-choice
+    told a e = ap (λ x. answers.values x) e ∙ by by-tables ∙ ap (λ c. words.choice-shown (desk-chosen c)) same-choice
       where
-        by : (c : Choice Grant) → answers.values (answers.chosen c) ≡ words.granted (desk-chosen c)
+        by : (c : Choice Grant) → answers.values (answers.chosen c) ≡ words.choice-shown (desk-chosen c)
         by (granted g) = refl
         by no-start = refl
 

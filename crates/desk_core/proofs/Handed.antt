@@ -9,7 +9,7 @@ use Rattle.desk_core.specs.declared.Listed.{Listed}
 use Rattle.rules.specs.Calls.{Call, values}
 use Rattle.rules.specs.Tables.{Tables, lent}
 use Rattle.rules.specs.Desk.{Outcome, outcome}
-use Rattle.desk_core.specs.Lent.{granted, listed, list-left, shown, granted-answer, listed-answer, list-after, shown-answer, refusal-answer, tables-after}
+use Rattle.desk_core.specs.Lent.{choice-shown, listed, list-left, shown, choice-answer, listed-answer, list-after, shown-answer, refusal-answer, tables-after}
 
 module _ (links : List Link) (t : Tables) where
   -- the tables that a call hands back, as its contract puts them
@@ -26,9 +26,9 @@ module _ (links : List Link) (t : Tables) (c : Call) (o : Outcome) (e : outcome 
   unfolding refusal-answer
   handed-number = sym (ap (λ x. values (x .answer) .number) e)
 
-  pub handed-grant : granted (o .answer) ≡ granted-answer links t c
-  unfolding granted-answer
-  handed-grant = sym (ap (λ x. granted (x .answer)) e)
+  pub handed-grant : choice-shown (o .answer) ≡ choice-answer links t c
+  unfolding choice-answer
+  handed-grant = sym (ap (λ x. choice-shown (x .answer)) e)
 
   pub handed-shown : shown (o .answer) ≡ shown-answer links t c
   unfolding shown-answer
@@ -44,5 +44,5 @@ module _ (links : List Link) (t : Tables) (c : Call) (o : Outcome) (e : outcome 
   handed a q = (a ∙ handed-number, handed-tables q)
 
   -- a booking
-  pub handed-booking : {a : ChoiceRecord} {after : Tables} → a ≡ granted (o .answer) → after ≡ o .tables → (a ≡ granted-answer links t c) × (after ≡ tables-after links t c)
+  pub handed-booking : {a : ChoiceRecord} {after : Tables} → a ≡ choice-shown (o .answer) → after ≡ o .tables → (a ≡ choice-answer links t c) × (after ≡ tables-after links t c)
   handed-booking a q = (a ∙ handed-grant, handed-tables q)

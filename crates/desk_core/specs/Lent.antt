@@ -25,8 +25,8 @@ abbrev pub search-of : Head → LinkTable → Request → Search
 search-of head t r = record { ends = ends-of t; source = r .from; destination = r .to; bandwidth = r .bandwidth; span = record { 0 = span-of head (r .duration .0) } }
 
 -- an answer's number and values, for a booking or an offer, for a listing, and for a showing
-abbrev pub granted : Answer → ChoiceRecord
-granted a = record { refusal = values a .number; start = record { 0 = values a .start }; path = record { count = values a .count; links = values a .path } }
+abbrev pub choice-shown : Answer → ChoiceRecord
+choice-shown a = record { refusal = values a .number; start = record { 0 = values a .start }; path = record { count = values a .count; links = values a .path } }
 
 abbrev pub listed : Answer → Listed
 listed a = record { refusal = values a .number; count = values a .ranges }
@@ -43,8 +43,8 @@ abbrev pub shown : Answer → Shown
 shown a = record { refusal = values a .number; free = record { 0 = values a .figure } }
 
 module _ (links : List Link) (t : Tables) (c : Call) where
-  unfoldable pub granted-answer : ChoiceRecord
-  granted-answer = granted (outcome links t c .answer)
+  unfoldable pub choice-answer : ChoiceRecord
+  choice-answer = choice-shown (outcome links t c .answer)
 
   unfoldable pub listed-answer : Listed
   listed-answer = listed (outcome links t c .answer)

@@ -17,7 +17,7 @@ use Rattle.timeline.proofs.Places.{rising-order}
 use Rattle.free_table.specs.Figures.{kept}
 use Rattle.path_search.specs.Paths.{Graph}
 use Rattle.choice.specs.Choice.{possible}
-use Rattle.choice.specs.Answer.{carries}
+use Rattle.choice.specs.Carrying.{carries}
 use Rattle.choice.proofs.Starts.{event-place}
 use Rattle.choice.proofs.Possible.{possible-more}
 use Rattle.choice.proofs.Lent.{kept-on, event-at}

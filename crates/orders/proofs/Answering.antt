@@ -20,7 +20,7 @@ use Rattle.histories.proofs.Exits.{Gives, gives-of}
 use Rattle.rules.specs.Calls.{Ask, Call, ask, Values, values}
 use Rattle.rules.specs.Tables.{Tables, lent}
 use Rattle.rules.specs.Desk.{outcome}
-use Rattle.desk_core.specs.Lent.{granted-answer, refusal-answer, tables-after}
+use Rattle.desk_core.specs.Lent.{choice-answer, refusal-answer, tables-after}
 use Rattle.desk_core.proofs.Handed.{Back}
 use Rattle.orders.specs.Ordered.{call-of, accepted, reported, path-shown, answered, by-reading}
 
@@ -49,8 +49,8 @@ module _ (links : List Link) (t : Tables) where
       pub start-same : a .start ≡ record { 0 = said .start }
       pub path-same : a .path ≡ record { count = said .count; links = said .path }
 
-    pub carried : {a : ChoiceRecord} → a ≡ granted-answer links t c → Carried a
-    unfolding granted-answer
+    pub carried : {a : ChoiceRecord} → a ≡ choice-answer links t c → Carried a
+    unfolding choice-answer
     carried e = record { number-same = ap (λ x. x .refusal) e; start-same = ap (λ x. x .start) e; path-same = ap (λ x. x .path) e }
 
   module _ (order : Order) {head : Head} {path : Path} {events free places : List ℕ} where

@@ -35,7 +35,8 @@ use Rattle.rules.specs.Plain.{Booking, Plain, until, uses, times, taken, capaci
 use Rattle.rules.specs.Calls.{put-in}
 use Rattle.rules.specs.Tables.{events-of, event-table, free-table, booking-of}
 use Rattle.rules.specs.Sound.{BookingRight}
-use Rattle.rebuild.specs.Rebuilding.{place-path, less-path, enough-path, PlaceRight, NotOversold}
+use Rattle.rebuild.specs.Rebuilding.{place-path, less-path, enough-path, PlaceRight}
+use Rattle.rules.specs.Desk.{NotOversold}
 use Rattle.rules.proofs.Uses.{all-times, uses-most, uses-within, taken-put-in, free-put-in, taken-past, free-changes}
 
 -- ---- the links of a right path are on the list, and differ, since two equal links would end at one node twice

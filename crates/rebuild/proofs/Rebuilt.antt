@@ -25,7 +25,8 @@ use Rattle.rules.specs.Calls.{put-in}
 use Rattle.rules.specs.Tables.{events-of, event-table, free-table, booking-of, booking-at, held-by}
 use Rattle.rules.specs.Sound.{BookingRight}
 use Rattle.units.specs.LinkTables.{links-of}
-use Rattle.rebuild.specs.Rebuilding.{release-of, PlaceRight, NotOversold, CanRebuild}
+use Rattle.rebuild.specs.Rebuilding.{release-of, PlaceRight, CanRebuild}
+use Rattle.rules.specs.Desk.{NotOversold}
 use Rattle.rules.proofs.Obeys.{right-in}
 use Rattle.rules.proofs.LinkColumns.{links-count, capacity-column}
 use Rattle.rebuild.proofs.Added.{events-few, oversold-added, CanAdd, Adds, add-asks, added}

@@ -4,7 +4,6 @@ use mathlib.Core.List.{List, [], _∷_}
 use mathlib.Core.Bool.{Bool}
 use Prim.Native.Nat.{ℕ, _*_, _≤_, _<_}
 use lib.ListN.{length, take}
-use Rattle.units.specs.declared.Link.{Link}
 use Rattle.units.specs.Limits.{most-links, most-hops, most-bookings, most-events, place-size, last-minute, longest}
 use Rattle.units.specs.Lists.{all, All, Within}
 use Rattle.units.specs.Spans.{span-of, release}
@@ -14,7 +13,6 @@ use Rattle.free_table.specs.Looking.{enough-span}
 use Rattle.book.specs.declared.Booking.{Booking as Place}
 use Rattle.book.specs.Places.{booking-in}
 use Rattle.units.specs.declared.LinkTable.{LinkTable}
-use Rattle.rules.specs.Plain.{Plain, taken, capacity}
 use Rattle.rules.specs.Tables.{held-by}
 use Rattle.units.specs.LinkTables.{links-of}
 use Rattle.rules.specs.Sound.{BookingRight}
@@ -41,10 +39,6 @@ pub record PlaceRight (b : Place) : Type 0 where
   pub duration-right : Within 1 longest (b .duration .0)
   pub count-right : b .count ≤ most-hops
   pub links-right : All (λ l. l < most-links) (place-path b)
-
--- document 01's 'no link is oversold', in any minute
-abbrev pub NotOversold : List Link → Plain → Type 0
-NotOversold links p = (l m : ℕ) → l < length links → taken p l m ≤ capacity links l
 
 -- tables of the right sizes, and a book whose places, as many as the head counts, hold right bookings
 pub record CanRebuild (links : LinkTable) (head : Head) (book es t : List ℕ) : Type 0 where

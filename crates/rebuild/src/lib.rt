@@ -19,9 +19,10 @@ ghost use Prim.Native.Nat.{_<_};
 ghost use Rattle.units.specs.Limits.{most-links};
 ghost use Rattle.timeline.specs.Insertion.{with-span, with-span-rows, Room};
 ghost use Rattle.rules.specs.Tables.{held-by, event-table, free-table};
+ghost use Rattle.rules.specs.Desk.{NotOversold};
 ghost use Rattle.units.specs.LinkTables.{links-of};
 ghost use Rattle.free_table.specs.Looking.{TablesSized};
-ghost use Rattle.rebuild.specs.Rebuilding.{place-path, release-of, less-path, enough-path, PlaceRight, NotOversold, CanRebuild};
+ghost use Rattle.rebuild.specs.Rebuilding.{place-path, release-of, less-path, enough-path, PlaceRight, CanRebuild};
 
 // Whether every link of a booking's path has its bandwidth free from its start until a minute.
 fn path_fits(events: &[u32], free: &[u32], b: Booking, until: Minute) -> bool

@@ -28,27 +28,17 @@ use units::PLACE;
 use units::Request;
 use units::TOO_LATE;
 use units::UNSOUND;
+use units::low_minute;
 ghost use mathlib.Core.Path.{_≡_};
 ghost use mathlib.Core.List.{[]};
 ghost use mathlib.Core.Bool.{true};
-ghost use Prim.Native.Nat.{_*_, _≤_, max};
+ghost use Prim.Native.Nat.{_*_, _≤_};
 ghost use lib.Dec.{eqb};
 ghost use lib.ListN.{length};
 ghost use Rattle.units.specs.Limits.{place-size, list-size};
 ghost use Rattle.rules.specs.Calls.{Ask, set-up, first-refusal, own-checks};
 ghost use Rattle.rules.specs.Tables.{held-by, lent-checks, table-checks, lent};
 ghost use Rattle.units.specs.LinkTables.{links-of};
-
-// Document 01's low: the later of earliest start and clock.
-pub fn low_minute(earliest: Minute, clock: Minute) -> Minute
-    ensures { λ r. ⌜ r .0 ≡ max (earliest .0) (clock .0) ⌝ }
-{
-    if earliest.0 < clock.0 {
-        clock
-    } else {
-        earliest
-    }
-}
 
 // The number of the first check of its own that an offer does not pass, or 0.
 pub fn offer_refusal(head: Head, request: Request) -> u32
@@ -57,7 +47,7 @@ pub fn offer_refusal(head: Head, request: Request) -> u32
     if !request_ok(request) {
         return BAD_FIELD;
     }
-    if request.latest.0 < low_minute(request.earliest, head.clock).0 {
+    if request.latest.0 < low_minute(head, request).0 {
         return TOO_LATE;
     }
     0

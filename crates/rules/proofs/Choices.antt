@@ -17,7 +17,7 @@ use Rattle.path_search.specs.Paths.{PathRight}
 use Rattle.path_search.proofs.Chains.{Way}
 use Rattle.path_search.proofs.Paths.{chain-leads, route-path}
 use Rattle.choice.specs.Choice.{Grant, Choice, granted, no-start, choose}
-use Rattle.choice.specs.Answer.{carries as carries-by}
+use Rattle.choice.specs.Carrying.{carries as carries-by}
 use Rattle.choice.proofs.Choice.{IsGrant, NoGrant, granted-iff, no-start-iff}
 use Rattle.rules.specs.Plain.{Plain, span, terms, graph, free-for, carries, low}
 use Rattle.rules.specs.Calls.{Answer, starts, refuse, chosen, best}

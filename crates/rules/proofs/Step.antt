@@ -17,7 +17,7 @@ use Rattle.units.proofs.Tests.{member-tells, absent, in-range}
 use Rattle.units.proofs.Permuted.{length-permuted, member-permuted, select-permuted}
 use Rattle.units.proofs.Parts.{select-part, length-part, map-part, distinct-part, all-map, all-at, all-selected}
 use Rattle.choice.specs.Choice.{Grant}
-use Rattle.choice.specs.Answer.{carries as carries-by}
+use Rattle.choice.specs.Carrying.{carries as carries-by}
 use Rattle.listing.specs.Ranges.{ranges}
 use Rattle.histories.specs.Kinds as kinds
 use Rattle.rules.specs.Plain.{Booking, Plain, empty, span, terms, until, uses, taken, capacity, graph, free, low, with-book}

@@ -1,16 +1,15 @@
 -- Document 01's plain book: a clock and a list of bookings, with no table in sight, and what they leave free.
 use mathlib.Core.List.{List, [], map}
 use mathlib.Core.Bool.{Bool}
-use Prim.Native.Nat.{ℕ, _-_, max}
-use lib.Dec.{leb}
+use Prim.Native.Nat.{ℕ, _-_}
 use lib.ListN.{length, getD}
 use Rattle.units.specs.declared.Link.{Link}
 use Rattle.units.specs.declared.Request.{Request}
 use Rattle.units.specs.Lists.{if-so, sum}
-use Rattle.units.specs.Search.{allFrom}
-use Rattle.units.specs.Spans.{held-for, release}
+use Rattle.units.specs.Spans.{low-at, held-for, release}
 use Rattle.path_search.specs.Paths.{Graph}
 use Rattle.choice.specs.Choice.{Grant}
+use Rattle.choice.specs.Carrying.{carries as throughout}
 use Rattle.plain_book.specs.Stretches as stretches
 use Rattle.plain_book.specs.Stretches.{Stretch, holds}
 
@@ -86,8 +85,8 @@ free-for links p r l m = free links p l m
 
 -- link l has the bandwidth free in every minute of the span that starts at m
 abbrev pub carries : List Link → Plain → Request → ℕ → ℕ → Bool
-carries links p r m l = allFrom m (span p (terms r)) (λ k. leb (r .bandwidth .0) (free-for links p r l k))
+carries links p r m l = throughout (free-for links p r) (r .bandwidth .0) (span p (terms r)) m l
 
 -- document 01's low: the start of the request's window
 abbrev pub low : Plain → Request → ℕ
-low p r = max (r .earliest .0) (p .clock)
+low p r = low-at (r .earliest .0) (p .clock)

@@ -14,7 +14,7 @@ use Rattle.rules.specs.Plain.{Plain}
 use Rattle.rules.specs.Calls.{numbers}
 use Rattle.rules.specs.Tables.{links-ok, booking-ok, book-table, event-table, free-table}
 use Rattle.units.specs.LinkTables.{links-of}
-use Rattle.rebuild.specs.Rebuilding.{NotOversold}
+use Rattle.rules.specs.Desk.{NotOversold}
 
 -- every figure from a place on is zero
 unfoldable pub zeros-from : ℕ → List ℕ → Bool

@@ -1,6 +1,15 @@
--- For how long a booking holds its links, and until when.
-use Prim.Native.Nat.{ℕ, _+_}
+-- From when on a booking may hold its links, for how long, and until when.
+use Prim.Native.Nat.{ℕ, _+_, max}
 use Rattle.units.specs.declared.Head.{Head}
+use Rattle.units.specs.declared.Request.{Request}
+
+-- document 01's low: the later of earliest start and clock
+abbrev pub low-at : ℕ → ℕ → ℕ
+low-at earliest clock = max earliest clock
+
+-- that of a request, on a desk of that head
+abbrev pub low-of : Head → Request → ℕ
+low-of head r = low-at (r .earliest .0) (head .clock .0)
 
 -- the minutes for which a booking of that duration holds its links
 abbrev pub held-for : ℕ → ℕ

@@ -6,7 +6,7 @@ ghost use mathlib.Core.List.{_++_};
 ghost use Prim.Native.Nat.{_-_, _≤_, _<_};
 ghost use lib.ListN.{length, take, replicate};
 ghost use Rattle.units.specs.Limits.{most-links, last-shown};
-ghost use Rattle.units.specs.Spans.{span-of, most-span, release};
+ghost use Rattle.units.specs.Spans.{low-of, span-of, most-span, release};
 ghost use Rattle.units.specs.LinkTables.{empty-table, with-link, at-most-64};
 
 // The last node; nodes are numbered from 0.
@@ -124,6 +124,17 @@ pub struct Head {
     pub clock: Minute,
     pub links: u32,
     pub bookings: u32,
+}
+
+// Document 01's low, the start of a request's window: the later of its earliest start and the clock.
+pub fn low_minute(head: Head, request: Request) -> Minute
+    ensures { λ r. ⌜ r .0 ≡ low-of head request ⌝ }
+{
+    if request.earliest.0 < head.clock.0 {
+        head.clock
+    } else {
+        request.earliest
+    }
 }
 
 // The minutes for which a booking of a duration holds its links.

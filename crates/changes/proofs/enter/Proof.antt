@@ -4,7 +4,7 @@ use native.Mathlib.Omega.{arith}
 use borrow.Author.Needs.{needs}
 use Rattle.book.specs.Places.{with-booking}
 use Rattle.changes.proofs.InOrder.{sizes, few-bookings}
-use Rattle.changes.proofs.Written.{place-of, enter-asks, grant-asks, entered-tables}
+use Rattle.changes.proofs.Written.{granted-place, enter-asks, grant-asks, entered-tables}
 use Rattle.changes.proofs.enter.Statement.{statement}
 use Rattle.changes.proofs.enter.Tie as tie
 
@@ -46,7 +46,7 @@ returns c =
     let s = found .before .before .before .before .before .before .before .before .before in
     let a = s .args in
     entered-tables (s .pre .0) (s .pre .1) (added .add-booking .ensures)
-    (inserted .insert-booking .ensures ∙ ap (λ i. with-booking i (place-of (a .number) (a .request) (a .start) (a .path)) (a .book .now)) (found .slot .ensures))
+    (inserted .insert-booking .ensures ∙ ap (λ i. with-booking i (granted-place (a .number) (a .request) (a .start) (a .path)) (a .book .now)) (found .slot .ensures))
 
 pub enter-spec : {M : Type 1} → statement M
 enter-spec =

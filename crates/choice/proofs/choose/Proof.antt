@@ -4,7 +4,7 @@ use native.Mathlib.Omega.{arith}
 use borrow.Author.Needs.{needs}
 use Rattle.free_table.specs.Figures.{kept}
 use Rattle.path_search.specs.Answer.{graph}
-use Rattle.choice.specs.Answer.{carries}
+use Rattle.choice.specs.Carrying.{carries}
 use Rattle.choice.proofs.Exits.{no-route, askable-at, answer-empty, answer-low}
 use Rattle.choice.proofs.choose.Statement.{statement}
 use Rattle.choice.proofs.choose.Tie as tie

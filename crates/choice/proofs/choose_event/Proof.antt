@@ -9,7 +9,7 @@ use borrow.Author.Needs.{needs}
 use Rattle.free_table.specs.Figures.{kept}
 use Rattle.path_search.specs.Answer.{graph}
 use Rattle.choice.specs.Choice.{possible}
-use Rattle.choice.specs.Answer.{carries}
+use Rattle.choice.specs.Carrying.{carries}
 use Rattle.choice.proofs.Starts.{Tried, tried-low, tried-next}
 use Rattle.choice.proofs.Exits.{no-route, askable-at, answer-event, answer-late, answer-left}
 use Rattle.choice.proofs.choose_event.Statement.{statement}
@@ -22,23 +22,18 @@ Inv-loop search events free low latest place₀ place =
 abbrev μ-loop : tie.MeasureT-loop
 μ-loop search events free low latest place₀ place = length events - place
 
--- src/lib.rt:144:5
 loop-holds : tie.Need-loop-holds Inv-loop μ-loop
 loop-holds c = let s = c .before .before in (omega arith, tried-low _ (s .args .events .now) (s .args .low .0) (s .args .latest .0) (s .pre .1))
 
--- src/lib.rt:145:21
 mul-event : tie.Need-mul-event Inv-loop μ-loop
 mul-event c = omega arith
 
--- src/lib.rt:145:21
 shared-slice-read-event : tie.Need-shared-slice-read-event Inv-loop μ-loop
 shared-slice-read-event c = omega arith
 
--- src/lib.rt:147:13
 refused-requires : tie.Need-refused-requires Inv-loop μ-loop
 refused-requires c κs = search needs
 
--- src/lib.rt:147:13
 returns : tie.Need-returns Inv-loop μ-loop
 returns c =
     let s = c .before .before .before .before .before .before .before .before in
@@ -47,15 +42,12 @@ returns c =
     let l = c .before .before .before .before .before .loop in
     c .refused .ensures ∙ answer-late (graph (a .search .ends)) (a .events .now) (a .free .now) (a .search .bandwidth .0) (a .search .span .0) (a .search .source) (a .search .destination) (a .low .0) (a .latest .0) (pre .clock) (pre .times) (pre .are-events) (pre .not-past) (l .place) (l .inv .1) (omega (arith, c .before .if1 .taken))
 
--- src/lib.rt:151:17
 path-at-requires : tie.Need-path-at-requires Inv-loop μ-loop
 path-at-requires c κs = askable-at (c .before .before .before .before .before .before .before .before .before .pre .0) _ (omega arith) (omega arith)
 
--- src/lib.rt:153:17
 started-requires : tie.Need-started-requires Inv-loop μ-loop
 started-requires c κs = search needs
 
--- src/lib.rt:153:17
 returns-2 : tie.Need-returns-2 Inv-loop μ-loop
 returns-2 c =
     let s = c .before .before .before .before .before .before .before .before .before .before .before .before .before in
@@ -66,15 +58,12 @@ returns-2 c =
     c .started .ensures ∙ answer-event (graph (a .search .ends)) (a .events .now) (a .free .now) (a .search .bandwidth .0) (a .search .span .0) (a .search .source) (a .search .destination) (a .low .0) (a .latest .0) (pre .clock) (pre .times) (pre .are-events) (pre .not-past) (l .place) (l .inv .1)
     (omega (arith, c .before .before .before .before .if2 .taken)) (omega (arith, c .before .before .before .before .before .before .if1 .left)) (p .result) (p .ensures) (omega (arith, c .before .if3 .taken))
 
--- src/lib.rt:156:9
 add-place : tie.Need-add-place Inv-loop μ-loop
 add-place c = omega arith
 
--- src/lib.rt:144:5
 loop-less : tie.Need-loop-less Inv-loop μ-loop
 loop-less c = omega arith
 
--- src/lib.rt:144:5
 loop-again : tie.Need-loop-again Inv-loop μ-loop
 loop-again c =
     let s = c .before .before .before .before .before .before .before .before .before in
@@ -91,11 +80,9 @@ loop-again c =
           (c .if2 .came))),
     )
 
--- src/lib.rt:158:5
 refused-requires-2 : tie.Need-refused-requires-2 Inv-loop μ-loop
 refused-requires-2 c κs = search needs
 
--- src/lib.rt:128:1
 returns-3 : tie.Need-returns-3 Inv-loop μ-loop
 returns-3 c =
     let s = c .before .before .before .before .before in

@@ -7,7 +7,7 @@ use Rattle.free_table.specs.Figures.{kept}
 use Rattle.free_table.specs.Looking.{enough-span}
 use Rattle.path_search.specs.Answer.{graph, usable, answer}
 use Rattle.path_search.proofs.Agree.{route-agree}
-use Rattle.choice.specs.Answer.{carries}
+use Rattle.choice.specs.Carrying.{carries}
 use Rattle.choice.proofs.Lent.{enough-span-carries}
 use Rattle.choice.proofs.path_at.Statement.{statement}
 use Rattle.choice.proofs.path_at.Tie as tie

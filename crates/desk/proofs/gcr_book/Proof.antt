@@ -6,7 +6,7 @@ use Rattle.desk.proofs.Calls.{Of, calls-for, Token, Own, lends}
 use Rattle.desk.proofs.Wrap.{after, all-passed, all-passed-go, opened, closed, calls-on, landed, gone, leaves, restated}
 use denote.Struct.Laws as LL
 use Rattle.units.specs.LinkTables.{table-of}
-use Rattle.desk.proofs.Laws.{granted-answer-same, tables-after-same}
+use Rattle.desk.proofs.Laws.{choice-answer-same, tables-after-same}
 use Rattle.units.specs.declared.Head.{Head}
 use Rattle.units.specs.declared.Link.{Link}
 use Rattle.units.specs.declared.LinkTable.{LinkTable}
@@ -128,7 +128,7 @@ module _ {M : Type 1} (𝓤 : URA M) (H : Heap 𝓤) (A : Atoms 𝓤) (W : Given
         -- [the tokens; what is had of the parameters; what the outcome owns; what the core ensures]
         owned ! R.the-row (Is R.the-row) (LL.makes R.the-type R′.the-plain 𝓤 H A) (r .answer) _ (fields .1 .0) $ keep ! (1 ∷ 2 ∷ 0 ∷ 4 ∷ []) $
         -- the core's words are taken to this function's
-        move ! (3 ∷ []) $ use1 W (raw (f.clauses 𝓤 H A mem run κs a .ensures tt (r .answer) (atExit f.ended κs a (r .head, ws .1)))) (restated 𝓤 (λ e. (e .0 ∙ granted-answer-same _ _ _, e .1 ∙ tables-after-same _ _ _))) $ move ! (1 ∷ 2 ∷ 3 ∷ []) $
+        move ! (3 ∷ []) $ use1 W (raw (f.clauses 𝓤 H A mem run κs a .ensures tt (r .answer) (atExit f.ended κs a (r .head, ws .1)))) (restated 𝓤 (λ e. (e .0 ∙ choice-answer-same _ _ _, e .1 ∙ tables-after-same _ _ _))) $ move ! (1 ∷ 2 ∷ 3 ∷ []) $
         by ! (leaves 𝓤 H A W f.ended stayed (f.clauses 𝓤 H A mem run) ((κs, qs, tt, a, vals), tt) _ (r .answer) (r .head, ws .1) (tt, (tt, (tt, (tt, (tt, (tt, (tt, tt)))))))))))))))))))))))))))))
 
 module _ {M : Type 1} (𝓤 : URA M) (H : Heap 𝓤) (A : Atoms 𝓤) (W : Given 𝓤 H A) (mem : Memory → SProp 𝓤) (run : Routine → Fun 𝓤) where

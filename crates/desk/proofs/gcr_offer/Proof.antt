@@ -6,7 +6,7 @@ use Rattle.desk.proofs.Calls.{Of, calls-for, Token, Own, lends}
 use Rattle.desk.proofs.Wrap.{all-passed, all-passed-go, peeked, calls-on, gone, leaves, restated}
 use denote.Struct.Laws as LL
 use Rattle.units.specs.LinkTables.{table-of}
-use Rattle.desk.proofs.Laws.{granted-answer-same}
+use Rattle.desk.proofs.Laws.{choice-answer-same}
 use Rattle.units.specs.declared.Head.{Head}
 use Rattle.units.specs.declared.Link.{Link}
 use Rattle.units.specs.declared.LinkTable.{LinkTable}
@@ -112,7 +112,7 @@ module _ {M : Type 1} (𝓤 : URA M) (H : Heap 𝓤) (A : Atoms 𝓤) (W : Given
         returns ! (look ! 23 refl) $ gone ! 23 refl refl $ gone ! 21 refl refl $ gone ! 19 refl refl $ gone ! 17 refl refl $ gone ! 15 refl refl $ gone ! 13 refl refl $ gone ! 11 refl refl $ gone ! 9 refl refl $ gone ! 7 refl refl $ free0 ! $
         move ! (6 ∷ []) $ split ! $ move ! (0 ∷ 5 ∷ []) $ join ! $ move ! (5 ∷ 0 ∷ []) $ join ! $ keep ! (0 ∷ 3 ∷ 2 ∷ 4 ∷ []) $
         -- the core's words are taken to this function's
-        move ! (3 ∷ []) $ use1 W (raw (f.clauses 𝓤 H A mem run κs a .ensures tt r (atExit f.ended κs a (tt, ws .1)))) (restated 𝓤 (λ e. e ∙ granted-answer-same _ _ _)) $ move ! (1 ∷ 2 ∷ 3 ∷ []) $
+        move ! (3 ∷ []) $ use1 W (raw (f.clauses 𝓤 H A mem run κs a .ensures tt r (atExit f.ended κs a (tt, ws .1)))) (restated 𝓤 (λ e. e ∙ choice-answer-same _ _ _)) $ move ! (1 ∷ 2 ∷ 3 ∷ []) $
         by ! (leaves 𝓤 H A W f.ended stayed (f.clauses 𝓤 H A mem run) ((κs, qs, tt, a, vals), tt) w r (tt, ws .1) (tt, (tt, (tt, (tt, (tt, (tt, tt))))))))))))))))))))
 
 module _ {M : Type 1} (𝓤 : URA M) (H : Heap 𝓤) (A : Atoms 𝓤) (W : Given 𝓤 H A) (mem : Memory → SProp 𝓤) (run : Routine → Fun 𝓤) where

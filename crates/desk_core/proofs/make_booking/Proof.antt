@@ -2,7 +2,7 @@
 use mathlib.Core.Path.{_≡_, refl, sym, ap, _∙_}
 use borrow.Author.Needs.{needs}
 use denote.Ref.{now}
-use Rattle.desk_core.specs.Lent.{granted}
+use Rattle.desk_core.specs.Lent.{choice-shown}
 use Rattle.rules.specs.Tables.{held, lent, tables}
 use Rattle.units.specs.LinkTables.{links-of}
 use Rattle.rules.proofs.Tests.{request-right}
@@ -99,7 +99,7 @@ returns-3 c = let a = c .before .before .before .before .before .before .before 
     let checks = all-passed l t (Ask.book (a .number) (a .request)) (f .is-sized) refl (f .is-sound) passes in
     let q = request-right (a .request) (and-eq-true-iff (number-ok (a .number)) (request-ok (a .request)) .0 (checks .0) .1) in
     let none = chosen-none (a .links) t f (a .request) q _ (c .before .before .before .best-start .ensures) _ (c .enum-told .given .1) in
-    handed-booking l t (ask (Ask.book (a .number) (a .request))) (_) (accepted l t (Ask.book (a .number) (a .request)) (f .is-sized) refl (f .is-sound) passes (refuse 8) (best-none (a .links) t f (a .request) q none)) (c .before .before .choice-record .ensures ∙ told (a .links) t f (a .request) q _ (c .before .before .before .best-start .ensures) ∙ ap granted (best-none (a .links) t f (a .request) q none)) refl
+    handed-booking l t (ask (Ask.book (a .number) (a .request))) (_) (accepted l t (Ask.book (a .number) (a .request)) (f .is-sized) refl (f .is-sound) passes (refuse 8) (best-none (a .links) t f (a .request) q none)) (c .before .before .choice-record .ensures ∙ told (a .links) t f (a .request) q _ (c .before .before .before .best-start .ensures) ∙ ap choice-shown (best-none (a .links) t f (a .request) q none)) refl
 
 enter-requires : tie.Need-enter-requires
 enter-requires c κs = let a = c .before .before .before .before .before .before .before .before .before .before .before .before .before .before .before .before .before .before .before .before .before .before .args in
@@ -131,7 +131,7 @@ returns-4 c = let a = c .before .before .before .before .before .before .before 
     let q = request-right (a .request) (and-eq-true-iff (number-ok (a .number)) (request-ok (a .request)) .0 (checks .0) .1) in
     let s = chosen-start (a .links) t f (a .request) q _ (c .before .before .before .before .before .before .before .before .before .before .before .before .before .before .before .best-start .ensures) _ (c .before .before .before .before .before .before .before .before .before .before .before .before .choice .given .1) in
     handed-booking l t (ask (Ask.book (a .number) (a .request))) _ (accepted l t (Ask.book (a .number) (a .request)) (f .is-sized) refl (f .is-sound) passes (starts (s .grant)) (best-starts (a .links) t f (a .request) q (s .grant) (s .is-best)))
-    (c .before .before .before .before .before .before .before .before .before .before .before .before .before .before .choice-record .ensures ∙ told (a .links) t f (a .request) q _ (c .before .before .before .before .before .before .before .before .before .before .before .before .before .before .before .best-start .ensures) ∙ ap granted (best-starts (a .links) t f (a .request) q (s .grant) (s .is-best))) (c .before .before .before .before .before .before .enter .ensures ∙ ap (λ b. tables l (put-in b (held t))) (booked-is (a .links) t f (a .request) q (a .number) _ _ s))
+    (c .before .before .before .before .before .before .before .before .before .before .before .before .before .before .choice-record .ensures ∙ told (a .links) t f (a .request) q _ (c .before .before .before .before .before .before .before .before .before .before .before .before .before .before .before .best-start .ensures) ∙ ap choice-shown (best-starts (a .links) t f (a .request) q (s .grant) (s .is-best))) (c .before .before .before .before .before .before .enter .ensures ∙ ap (λ b. tables l (put-in b (held t))) (booked-is (a .links) t f (a .request) q (a .number) _ _ s))
 
 pub make-booking-spec : {M : Type 1} → statement M
 make-booking-spec = tie.close (tie.spec table-refusal-requires refused-requires same-length same-length-2 same-length-3 returns book-refusal-requires refused-requires-2 same-length-4 same-length-5 same-length-6 returns-2 best-start-requires choice-record-requires enum-known-choice enum-told same-length-7 same-length-8 same-length-9 returns-3 enter-requires same-length-10 same-length-11 same-length-12 returns-4)

@@ -6,7 +6,7 @@ use borrow.Author.Needs.{needs}
 use Rattle.free_table.specs.Figures.{kept}
 use Rattle.path_search.specs.Answer.{graph}
 use Rattle.choice.specs.Choice.{choose}
-use Rattle.choice.specs.Answer.{carries}
+use Rattle.choice.specs.Carrying.{carries}
 use Rattle.listing.proofs.Found.{start-is, refused-is}
 use Rattle.listing.proofs.first_start.Statement.{statement}
 use Rattle.listing.proofs.first_start.Tie as tie

@@ -9,7 +9,8 @@ use Rattle.units.specs.Limits.{most-ranges}
 use Rattle.free_table.specs.Figures.{kept}
 use Rattle.path_search.specs.Answer.{graph}
 use Rattle.choice.specs.Choice.{possible}
-use Rattle.choice.specs.Answer.{carries, Askable}
+use Rattle.choice.specs.Carrying.{carries}
+use Rattle.choice.specs.Answer.{Askable}
 use Rattle.choice.specs.declared.Search.{Search}
 use Rattle.timeline.specs.Events.{events}
 use Rattle.choice.proofs.Lent.{kept-back}
@@ -31,7 +32,6 @@ Inv-loop search events free latest list₀ count₀ start₀ list count start =
 abbrev μ-loop : tie.MeasureT-loop
 μ-loop search events free latest list₀ count₀ start₀ list count start = suc (latest .0) - start
 
--- src/lib.rt:186:9
 -- the list has a place for each event
 events-few : {s : Search} {es t : List ℕ} {low latest : ℕ} (a : Askable s es t low latest) → length es ≤ most-ranges → length (events (a .clock) (a .times)) ≤ most-ranges
 events-few a few = omega (arith, simp (length-append) at (ap length (a .are-events)))
@@ -39,14 +39,12 @@ events-few a few = omega (arith, simp (length-append) at (ap length (a .are-even
 first-start-requires : tie.Need-first-start-requires Inv-loop μ-loop
 first-start-requires c κs = c .before .before .before .pre .0
 
--- src/lib.rt:197:5
 loop-holds : tie.Need-loop-holds Inv-loop μ-loop
 loop-holds c =
     let s = c .before .before .before .before in
     let a = s .args in
     listed-first (graph (a .search .ends)) (carries (kept (a .events .now) (a .free .now)) (a .search .bandwidth .0) (a .search .span .0)) (a .search .source) (a .search .destination) (a .low .0) (a .latest .0) (c .first-start .result) (c .first-start .ensures) (a .list .now) (s .pre .1 .1)
 
--- src/lib.rt:198:13
 run-end-requires : tie.Need-run-end-requires Inv-loop μ-loop
 run-end-requires c κs =
     let s = c .before .before .before .before .before .before .before in
@@ -57,7 +55,6 @@ run-end-requires c κs =
     let inside : l .start ≤ a .latest .0 = omega (arith, c .if1 .taken) in
     (askable-part p (l .start) (a .latest .0) (start-after (graph (a .search .ends)) (carries (kept (a .events .now) (a .free .now)) (a .search .bandwidth .0) (a .search .span .0)) (a .search .source) (a .search .destination) (a .low .0) (a .latest .0) (first .result) (first .ensures) (l .list) (l .count) (l .start) (l .inv) inside) (le-refl _), (inside, start-passes (graph (a .search .ends)) (carries (kept (a .events .now) (a .free .now)) (a .search .bandwidth .0) (a .search .span .0)) (a .search .source) (a .search .destination) (a .low .0) (a .latest .0) (first .result) (first .ensures) (l .list) (l .count) (l .start) (l .inv) inside))
 
--- src/lib.rt:209:21
 -- where a range is found there is a place for it
 room : (c : lts.After-run-end (first-start-reads.Asked, first-start-reads.Learnt, run-end-reads.Asked, run-end-reads.Learnt, next-start-reads.Asked, next-start-reads.Learnt, clear-from-reads.Asked, clear-from-reads.Learnt) reads.Pre reads.Post Inv-loop μ-loop) → c .before .before .before .loop .count < most-ranges
 room c =
@@ -72,39 +69,30 @@ room c =
 cast-place : tie.Need-cast-place Inv-loop μ-loop
 cast-place c = omega (arith, room c)
 
--- src/lib.rt:209:21
 mul-place : tie.Need-mul-place Inv-loop μ-loop
 mul-place c = omega (arith, room c)
 
--- src/lib.rt:210:9
 mul-list : tie.Need-mul-list Inv-loop μ-loop
 mul-list c = omega (arith, room c)
 
--- src/lib.rt:210:9
 slice-write-list : tie.Need-slice-write-list Inv-loop μ-loop
 slice-write-list c = let size = c .before .before .before .loop .inv .sized in omega (arith, room c)
 
--- src/lib.rt:211:27
 sub-list : tie.Need-sub-list Inv-loop μ-loop
 sub-list c = let r = c .run-end .ensures in omega (arith, r .after)
 
--- src/lib.rt:211:14
 add-list : tie.Need-add-list Inv-loop μ-loop
 add-list c = omega (arith, room c)
 
--- src/lib.rt:211:9
 mul-list-2 : tie.Need-mul-list-2 Inv-loop μ-loop
 mul-list-2 c = omega (arith, room c)
 
--- src/lib.rt:211:9
 slice-write-list-2 : tie.Need-slice-write-list-2 Inv-loop μ-loop
 slice-write-list-2 c = let size = c .before .before .before .loop .inv .sized in simp length-set (omega (arith, room c))
 
--- src/lib.rt:212:9
 add-count : tie.Need-add-count Inv-loop μ-loop
 add-count c = omega (arith, room c)
 
--- src/lib.rt:213:9
 next-start-requires : tie.Need-next-start-requires Inv-loop μ-loop
 next-start-requires c κs =
     let s = c .before .before .before .before .before .before .before .before in
@@ -116,7 +104,6 @@ next-start-requires c κs =
     let inside : l .start ≤ a .latest .0 = omega (arith, c .before .if1 .taken) in
     (askable-part p (r .result) (a .latest .0) (let early = start-after (graph (a .search .ends)) (carries (kept (a .events .now) (a .free .now)) (a .search .bandwidth .0) (a .search .span .0)) (a .search .source) (a .search .destination) (a .low .0) (a .latest .0) (first .result) (first .ensures) (l .list) (l .count) (l .start) (l .inv) inside in omega (arith, r .ensures .after)) (le-refl _), λ within. r .ensures .stops (omega arith))
 
--- src/lib.rt:197:5
 loop-less : tie.Need-loop-less Inv-loop μ-loop
 loop-less c =
     let s = c .before .before .before .before .before .before .before .before .before in
@@ -128,7 +115,6 @@ loop-less c =
     let n = next-start (graph (a .search .ends)) (carries (kept (a .events .now) (a .free .now)) (a .search .bandwidth .0) (a .search .span .0)) (a .search .source) (a .search .destination) (r .result) (a .latest .0) (c .next-start .result) (r .ensures .not-past) (c .next-start .ensures) in
     omega (arith, r .ensures .after, n .not-before, c .before .before .if1 .taken)
 
--- src/lib.rt:197:5
 loop-again : tie.Need-loop-again Inv-loop μ-loop
 loop-again c =
     let s = c .before .before .before .before .before .before .before .before .before in
@@ -140,23 +126,18 @@ loop-again c =
     let n = next-start (graph (a .search .ends)) (carries (kept (a .events .now) (a .free .now)) (a .search .bandwidth .0) (a .search .span .0)) (a .search .source) (a .search .destination) (r .result) (a .latest .0) (c .next-start .result) (r .ensures .not-past) (c .next-start .ensures) in
     listed-next (graph (a .search .ends)) (carries (kept (a .events .now) (a .free .now)) (a .search .bandwidth .0) (a .search .span .0)) (a .search .source) (a .search .destination) (a .low .0) (a .latest .0) (first .result) (first .ensures) (l .list) (l .count) (l .start) (l .inv) (omega (arith, c .before .before .if1 .taken)) (r .result) (r .ensures) (c .next-start .result) n (room (c .before))
 
--- src/lib.rt:225:22
 cast-clear-from : tie.Need-cast-clear-from Inv-loop μ-loop
 cast-clear-from c = let l = c .before .before .before .loop .inv in omega (arith, l .room)
 
--- src/lib.rt:225:22
 mul-clear-from : tie.Need-mul-clear-from Inv-loop μ-loop
 mul-clear-from c = let l = c .before .before .before .loop .inv in omega (arith, l .room)
 
--- src/lib.rt:225:5
 clear-from-requires : tie.Need-clear-from-requires Inv-loop μ-loop
 clear-from-requires c κs = let l = c .before .before .before .loop .inv in omega (arith, l .room, l .sized)
 
--- src/lib.rt:169:1
 same-length : tie.Need-same-length Inv-loop μ-loop
 same-length c = c .before .before .clear-from .kept .0 ∙ c .before .before .before .before .before .before .loop .inv .sized ∙ sym (c .before .before .before .before .before .before .before .before .before .before .before .pre .1 .1)
 
--- src/lib.rt:169:1
 returns : tie.Need-returns Inv-loop μ-loop
 returns c =
     let s = c .before .before .before .before .before .before .before .before .before .before .before in

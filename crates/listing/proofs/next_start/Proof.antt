@@ -7,7 +7,7 @@ use borrow.Author.Needs.{needs}
 use Rattle.free_table.specs.Figures.{kept}
 use Rattle.path_search.specs.Answer.{graph}
 use Rattle.choice.specs.Choice.{try-at, choose}
-use Rattle.choice.specs.Answer.{carries}
+use Rattle.choice.specs.Carrying.{carries}
 use Rattle.choice.proofs.Starts.{earliest-none}
 use Rattle.listing.specs.Ranges.{start-or}
 use Rattle.listing.proofs.Found.{start-is, refused-is}

@@ -2,7 +2,7 @@
 use borrow.Author.Needs.{needs}
 use Rattle.free_table.specs.Figures.{kept}
 use Rattle.path_search.specs.Answer.{graph}
-use Rattle.choice.specs.Answer.{carries}
+use Rattle.choice.specs.Carrying.{carries}
 use Rattle.choice.proofs.Exits.{possible-counts}
 use Rattle.listing.proofs.possible_at.Statement.{statement}
 use Rattle.listing.proofs.possible_at.Tie as tie
