@@ -11,7 +11,6 @@ use lib.Seq.{length-take-le}
 use Rattle.units.specs.declared.Link.{Link}
 use Rattle.units.specs.Limits.{most-bookings, place-size}
 use Rattle.units.specs.Lists.{select, Distinct}
-use Rattle.units.proofs.Tests.{Rising}
 use Rattle.units.proofs.Permuted.{all-permuted}
 use Rattle.units.proofs.Parts.{select-part, map-part, rising-part}
 use Rattle.units.proofs.Padded.{Rows}
@@ -25,11 +24,10 @@ use Rattle.book.specs.Places.{figures, with-booking}
 use Rattle.plain_book.specs.Bookings as plain-book
 use Rattle.rules.specs.Plain.{Booking, with-book, until}
 use Rattle.rules.specs.Calls.{numbers, put-in, take-out, move-to}
-use Rattle.rules.specs.Tables.{Tables, tables, held, place, insert-by-number, by-number, event-table, free-table, book-table, Fine}
-use Rattle.rules.specs.Sound.{Obeys}
+use Rattle.rules.specs.Tables.{Tables, tables, held, place, insert-by-number, by-number, book-table, Fine}
 use Rattle.rules.proofs.Book.{by-number-is, by-number-fixed, Short, place-rows}
-use Rattle.rules.proofs.Tests.{Sized, sized-tells}
-use Rattle.rules.proofs.Obeys.{sound-facts, sound-obeys, sound-tables, held-count, all-short}
+use Rattle.rules.proofs.Obeys.{sound-tables, held-count, all-short}
+use Rattle.rules.proofs.Fine.{sizes, book-obeys, in-order}
 use Rattle.changes.proofs.Updates.{book-split, book-without}
 use Rattle.changes.specs.Updating.{with-clock}
 
@@ -51,41 +49,16 @@ abbrev book-of : List Booking → List ℕ
 book-of = filled place-size most-bookings place
 
 module _ {links : List Link} {t : Tables} (fine : Fine links t) where
-  pub sizes : Sized links t
-  sizes = sized-tells links t .0 (fine .is-sized)
-
-  pub book-obeys : Obeys links (held t)
-  book-obeys = sound-obeys links t (fine .is-sound)
-
-  pub few-bookings : t .head .bookings ≤ most-bookings
-  few-bookings = sound-facts links t (fine .is-sound) .count-right
-
-  in-order : Rising 0 (numbers (held t .bookings))
-  in-order = sound-facts links t (fine .is-sound) .in-order
-
   rows-right : Rows place place-size (held t .bookings)
-  rows-right = place-rows (held t .bookings) (all-short links (held t) book-obeys)
-
-  -- each table is that of the book
-  pub links-are : t .head .links ≡ length links
-  unfolding tables
-  links-are = ap (λ x. x .head .links) (sound-tables links t (fine .is-sound))
-
-  pub events-are : t .events ≡ event-table (held t)
-  unfolding tables
-  events-are = ap (λ x. x .events) (sound-tables links t (fine .is-sound))
-
-  pub free-are : t .free ≡ free-table links (held t)
-  unfolding tables
-  free-are = ap (λ x. x .free) (sound-tables links t (fine .is-sound))
+  rows-right = place-rows (held t .bookings) (all-short links (held t) (book-obeys fine))
 
   book-filled : t .book ≡ book-of (held t .bookings)
   unfolding tables
-  book-filled = ap (λ x. x .book) (sound-tables links t (fine .is-sound)) ∙ ap book-of (by-number-fixed 0 (held t .bookings) in-order)
+  book-filled = ap (λ x. x .book) (sound-tables links t (fine .is-sound)) ∙ ap book-of (by-number-fixed 0 (held t .bookings) (in-order fine))
 
   -- some of the bookings are still in order
   part-filled : (test : Booking → Bool) → book-of (select test (held t .bookings)) ≡ book-table (with-book (held t) (select test (held t .bookings)))
-  part-filled test = ap book-of (sym (by-number-fixed 0 (select test bookings) (rising-part 0 (map-part (λ b. b .number) (select-part test bookings)) in-order)))
+  part-filled test = ap book-of (sym (by-number-fixed 0 (select test bookings) (rising-part 0 (map-part (λ b. b .number) (select-part test bookings)) (in-order fine))))
     where
       bookings : List Booking
       bookings = held t .bookings
@@ -110,10 +83,10 @@ module _ {links : List Link} {t : Tables} (fine : Fine links t) where
       by (there xs b ys split same other) q =
           let at : length xs ≡ i = cc in
           let all : t .head .bookings ≡ length xs + suc (length ys) = sym (held-count t) ∙ ap length split ∙ length-append xs (b ∷ ys) in
-          let most = book-obeys .not-too-many in
+          let most = book-obeys fine .not-too-many in
           let few : length xs + suc (length ys) ≤ most-bookings = omega (arith, held-count t) in
           let rest : select (λ c. not (eqb number (c .number))) bookings ≡ xs ++ ys
-          = ap (select (λ c. not (eqb number (c .number)))) split ∙ book-without number xs b ys same (subst (λ (bs : List Booking). Distinct (numbers bs)) split (book-obeys .numbers-differ)) in
+          = ap (select (λ c. not (eqb number (c .number)))) split ∙ book-without number xs b ys same (subst (λ (bs : List Booking). Distinct (numbers bs)) split (book-obeys fine .numbers-differ)) in
           record {
             inside = omega arith;
             book-is =
@@ -128,7 +101,7 @@ module _ {links : List Link} {t : Tables} (fine : Fine links t) where
 
   pub book-moved : (m : ℕ) → only-places (length (t .book)) (still-standing place-size (with-clock (t .head) m) (t .book) (t .head .bookings)) ≡ book-table (move-to m (held t))
   book-moved m =
-      ap (λ n. only-places n (still-standing place-size (with-clock (t .head) m) (t .book) (t .head .bookings))) (sizes .book-right)
+      ap (λ n. only-places n (still-standing place-size (with-clock (t .head) m) (t .book) (t .head .bookings))) (sizes fine .book-right)
       ∙ ap₂ (λ (b : List ℕ) n. only-places (most-bookings * place-size) (still-standing place-size (with-clock (t .head) m) b n)) book-filled (sym (held-count t))
       ∙ drop-filled place-size most-bookings place (held t .bookings) rows-right (with-clock (t .head) m)
       ∙ part-filled (λ b. ltb m (until (held t) b))
@@ -162,7 +135,7 @@ module _ {links : List Link} {t : Tables} (fine : Fine links t) where
         k = slot-among (b .number) (numbers bookings)
 
         ordered : by-number (b ∷ bookings) ≡ take k bookings ++ (b ∷ drop k bookings)
-        ordered = ap (insert-by-number b) (by-number-fixed 0 bookings in-order) ∙ book-split b bookings
+        ordered = ap (insert-by-number b) (by-number-fixed 0 bookings (in-order fine)) ∙ book-split b bookings
 
         front : length (take k bookings) ≡ k
         front = length-take-le k bookings (slot-most (b .number) bookings)
@@ -173,4 +146,4 @@ module _ {links : List Link} {t : Tables} (fine : Fine links t) where
         rows : Rows place place-size (take k bookings ++ (b ∷ drop k bookings))
         rows =
             subst (Rows place place-size) ordered
-            (place-rows (by-number (b ∷ bookings)) (all-permuted Short (Permᴰ·symm (by-number-is (b ∷ bookings))) (short, all-short links (held t) book-obeys)))
+            (place-rows (by-number (b ∷ bookings)) (all-permuted Short (Permᴰ·symm (by-number-is (b ∷ bookings))) (short, all-short links (held t) (book-obeys fine))))

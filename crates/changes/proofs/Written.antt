@@ -33,7 +33,8 @@ use Rattle.rules.proofs.LinkColumns.{links-count}
 use Rattle.rebuild.proofs.Added.{CanAdd, Adds, add-asks, added}
 use Rattle.rebuild.proofs.Rebuilt.{rebuilt-none}
 use Rattle.rebuild.proofs.RebuiltBook.{can-rebuild, events-anew, free-anew}
-use Rattle.changes.proofs.InOrder.{sizes, links-are, events-are, free-are, slot-inside, book-entered}
+use Rattle.changes.proofs.InOrder.{slot-inside, book-entered}
+use Rattle.rules.proofs.Fine.{sizes, links-are, events-are, free-are}
 
 -- four right tables
 tables-are : (links : List Link) (p : Plain) {head : Head} {es t book : List ℕ} → head ≡ head-of links p → es ≡ event-table p → t ≡ free-table links p → book ≡ book-table p → lent head es t book ≡ tables links p

@@ -2,27 +2,13 @@
 use mathlib.Core.List.{List}
 use Prim.Native.Nat.{ℕ}
 use Rattle.units.specs.declared.Link.{Link}
-use Rattle.units.specs.declared.Head.{Head}
-use Rattle.units.specs.Spans.{span-of}
-use Rattle.units.specs.declared.LinkTable.{LinkTable}
-use Rattle.path_search.specs.declared.LinkEnds.{LinkEnds}
 use Rattle.choice.specs.declared.ChoiceRecord.{ChoiceRecord}
-use Rattle.choice.specs.declared.Search.{Search}
-use Rattle.units.specs.declared.Request.{Request}
 use Rattle.listing.specs.Ranges.{list-table}
 use Rattle.desk_core.specs.declared.Shown.{Shown}
 use Rattle.desk_core.specs.declared.Listed.{Listed}
 use Rattle.rules.specs.Calls.{Call, Answer, done, starts, lists, shows, refused, values}
 use Rattle.rules.specs.Tables.{Tables}
 use Rattle.rules.specs.Desk.{outcome}
-
--- the ends of the links alone, as the path search takes them
-abbrev pub ends-of : LinkTable → LinkEnds
-ends-of t = record { count = t .count; from = t .from; to = t .to }
-
--- what a request asks of any start on these links
-abbrev pub search-of : Head → LinkTable → Request → Search
-search-of head t r = record { ends = ends-of t; source = r .from; destination = r .to; bandwidth = r .bandwidth; span = record { 0 = span-of head (r .duration .0) } }
 
 -- an answer's number and values, for a booking or an offer, for a listing, and for a showing
 abbrev pub choice-shown : Answer → ChoiceRecord

@@ -10,3 +10,4 @@ pub mod Exits
 pub mod LinkColumns
 pub mod Numbers
 pub mod Standing
+pub mod Fine

@@ -2,12 +2,10 @@
 use mathlib.Core.Path.{_≡_, refl, sym, _∙_, ap}
 use mathlib.Core.List.{List, map}
 use mathlib.Core.Bool.{Bool, true, false, _||_}
-use Prim.Native.Nat.{ℕ, zero, suc, _*_, _≤_}
-use native.Mathlib.Nat.{mul-le-mul-right}
+use Prim.Native.Nat.{ℕ, zero, suc}
 use lib.Dec.{eqb}
 use borrow.Author.Tests.{eq-eqb, ne-eqb, eqb-true, eqb-false}
 use lib.ListN.{length, length-map}
-use Rattle.units.specs.declared.Link.{Link}
 use Rattle.units.specs.declared.Head.{Head}
 use Rattle.units.specs.Limits.{place-size}
 use Rattle.units.specs.Lists.{member, count-from}
@@ -18,9 +16,7 @@ use Rattle.places.specs.declared.Standing.{Standing}
 use Rattle.places.specs.declared.Standing.the-variants.{At, Nowhere}
 use Rattle.places.specs.Places.{number-at, find, standing}
 use Rattle.rules.specs.Calls.{stands}
-use Rattle.rules.specs.Tables.{Tables, booking-at, held-by, Fine}
-use Rattle.rules.proofs.Tests.{sized-tells}
-use Rattle.rules.proofs.Obeys.{sound-facts}
+use Rattle.rules.specs.Tables.{booking-at, held-by}
 
 -- as many bookings are read as the head says
 pub count-read : (head : Head) (book : List ℕ) → length (held-by head book .bookings) ≡ head .bookings
@@ -52,7 +48,3 @@ number-found places x i (suc n) = by (eqb (number-at place-size places i) x) ref
 pub stands-found : (head : Head) (places : List ℕ) (x : ℕ) {s : Standing} → find place-size x places (head .bookings) ≡ s → stands x (held-by head places .bookings) ≡ is-at s
 unfolding find
 stands-found head places x e = number-found places x 0 (head .bookings) ∙ ap is-at e
-
--- the places that the head of sound tables counts are in the book
-pub places-fit : (links : List Link) (t : Tables) → Fine links t → t .head .bookings * place-size ≤ length (t .book)
-places-fit links t f = rw (sized-tells links t .0 (f .is-sized) .book-right) (mul-le-mul-right place-size (sound-facts links t (f .is-sound) .count-right))

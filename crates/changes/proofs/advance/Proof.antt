@@ -10,7 +10,8 @@ use Rattle.rules.specs.Sound.{Obeys}
 use Rattle.units.specs.LinkTables.{links-of}
 use Rattle.rules.proofs.Step.{obeys-move-to}
 use Rattle.changes.specs.Updating.{with-clock, with-count}
-use Rattle.changes.proofs.InOrder.{sizes, book-obeys, few-bookings, links-are, book-moved, count-moved}
+use Rattle.changes.proofs.InOrder.{book-moved, count-moved}
+use Rattle.rules.proofs.Fine.{sizes, book-obeys, few-bookings, links-are}
 use Rattle.changes.proofs.Written.{head-is, anew-asks, anew-tables}
 use Rattle.changes.proofs.advance.Statement.{statement}
 use Rattle.changes.proofs.advance.Tie as tie

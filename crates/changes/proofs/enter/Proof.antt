@@ -3,7 +3,7 @@ use mathlib.Core.Path.{ap, _∙_}
 use native.Mathlib.Omega.{arith}
 use borrow.Author.Needs.{needs}
 use Rattle.book.specs.Places.{with-booking}
-use Rattle.changes.proofs.InOrder.{sizes, few-bookings}
+use Rattle.rules.proofs.Fine.{sizes, few-bookings}
 use Rattle.changes.proofs.Written.{granted-place, enter-asks, grant-asks, entered-tables}
 use Rattle.changes.proofs.enter.Statement.{statement}
 use Rattle.changes.proofs.enter.Tie as tie

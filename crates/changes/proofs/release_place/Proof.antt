@@ -10,7 +10,8 @@ use Rattle.rules.specs.Sound.{Obeys}
 use Rattle.units.specs.LinkTables.{links-of}
 use Rattle.rules.proofs.Step.{obeys-take-out}
 use Rattle.changes.specs.Updating.{with-count}
-use Rattle.changes.proofs.InOrder.{sizes, book-obeys, few-bookings, links-are, Released, released}
+use Rattle.changes.proofs.InOrder.{Released, released}
+use Rattle.rules.proofs.Fine.{sizes, book-obeys, few-bookings, links-are}
 use Rattle.changes.proofs.Written.{head-is, anew-asks, anew-tables}
 use Rattle.changes.proofs.release_place.Statement.{statement}
 use Rattle.changes.proofs.release_place.Tie as tie

@@ -4,9 +4,8 @@ use mathlib.Core.Bool.{false≢true}
 use native.Mathlib.Omega.{arith}
 use borrow.Author.Needs.{needs}
 use denote.Ref.{now}
-use Rattle.units.specs.LinkTables.{links-of}
-use Rattle.rules.specs.Tables.{lent}
-use Rattle.rules.proofs.Standing.{stands-found, places-fit}
+use Rattle.rules.proofs.Standing.{stands-found}
+use Rattle.rules.proofs.Fine.{places-fit}
 use Rattle.changes.proofs.take_out.Statement.{statement}
 use Rattle.changes.proofs.take_out.Tie as tie
 
@@ -16,7 +15,7 @@ cast-find c = search needs
 find-requires : tie.Need-find-requires
 find-requires c κs =
     let s = c .before .before .before .before .before in
-    (omega arith, places-fit (links-of (s .args .links)) (lent (s .args .head) (now (s .args .events)) (now (s .args .free)) (now (s .args .book))) (s .pre .0))
+    (omega arith, places-fit (s .pre .0))
 
 enum-known-place : tie.Need-enum-known-place
 enum-known-place c = search needs

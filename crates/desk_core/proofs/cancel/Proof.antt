@@ -9,7 +9,7 @@ use Rattle.units.specs.LinkTables.{links-of}
 use Rattle.rules.specs.Calls.{Ask, ask, done, first-refusal, own-checks}
 use Rattle.rules.specs.Tables.{Tables, held, lent}
 use Rattle.rules.proofs.Exits.{refused-with, stopped, all-passed, accepted}
-use Rattle.rules.proofs.Standing.{places-fit}
+use Rattle.rules.proofs.Fine.{places-fit}
 use Rattle.refusals.proofs.TableChecks.{fine, tables-refused}
 use Rattle.desk_core.proofs.Handed.{handed}
 use Rattle.desk_core.proofs.cancel.Statement.{statement}
@@ -45,7 +45,7 @@ returns c =
 cancel-refusal-requires : tie.Need-cancel-refusal-requires
 cancel-refusal-requires c κs =
     let s = c .before .before .before .before .before .before .before .before .before in
-    places-fit (links s) (came s) (fine (links s) (came s) true (sym (c .before .before .table-refusal .ensures) ∙ c .before .if1 .left))
+    places-fit (fine (links s) (came s) true (sym (c .before .before .table-refusal .ensures) ∙ c .before .if1 .left))
 
 same-length-4 : tie.Need-same-length-4
 same-length-4 c = search needs

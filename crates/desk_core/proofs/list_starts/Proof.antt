@@ -14,10 +14,10 @@ use Rattle.rules.specs.Tables.{held, lent}
 use Rattle.rules.proofs.Tests.{request-right}
 use Rattle.rules.proofs.Exits.{refused-with, stopped, all-passed, accepted}
 use Rattle.desk_core.proofs.Handed.{handed-listing}
-use Rattle.changes.proofs.InOrder.{sizes}
+use Rattle.rules.proofs.Fine.{sizes}
 use Rattle.refusals.proofs.TableChecks.{lent-refusal, fine, list-fine, tables-refused}
 use Rattle.refusals.proofs.OwnChecks.{listed-as-offer}
-use Rattle.desk_core.proofs.BestStart.{best-asks, same-ranges}
+use Rattle.starts.proofs.BestStart.{best-asks, same-ranges}
 use Rattle.desk_core.proofs.list_starts.Statement.{statement}
 use Rattle.desk_core.proofs.list_starts.Tie as tie
 

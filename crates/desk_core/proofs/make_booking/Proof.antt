@@ -11,8 +11,9 @@ use Rattle.rules.specs.Calls.{Ask, ask, starts, refuse, first-refusal, own-chec
 use Rattle.rules.proofs.Exits.{refused-with, stopped, all-passed, accepted}
 use Rattle.desk_core.proofs.Handed.{handed-booking}
 use Rattle.refusals.proofs.TableChecks.{fine, tables-refused}
-use Rattle.rules.proofs.Standing.{places-fit}
-use Rattle.desk_core.proofs.BestStart.{best-asks, chosen-start, chosen-none, best-starts, best-none, told, grantable, booked-is}
+use Rattle.rules.proofs.Fine.{places-fit}
+use Rattle.starts.proofs.BestStart.{best-asks, chosen-start, chosen-none, best-starts, best-none}
+use Rattle.desk_core.proofs.Granted.{told, grantable, booked-is}
 use Rattle.desk_core.proofs.make_booking.Statement.{statement}
 use Rattle.desk_core.proofs.make_booking.Tie as tie
 
@@ -41,7 +42,7 @@ book-refusal-requires : tie.Need-book-refusal-requires
 book-refusal-requires c κs = let a = c .before .before .before .before .before .before .before .before .before .args in
     let l = links-of (a .links) in
     let t = lent (a .head) (now (a .events)) (now (a .free)) (now (a .book)) in
-    places-fit l t (fine l t true (sym (c .before .before .table-refusal .ensures) ∙ c .before .if1 .left))
+    places-fit (fine l t true (sym (c .before .before .table-refusal .ensures) ∙ c .before .if1 .left))
 
 refused-requires-2 : tie.Need-refused-requires-2
 refused-requires-2 c κs = search needs

@@ -10,7 +10,8 @@ use Rattle.rules.specs.Calls.{Ask, ask, first-refusal, own-checks, best}
 use Rattle.rules.proofs.Exits.{refused-with, stopped, all-passed, accepted}
 use Rattle.desk_core.proofs.Handed.{handed-grant}
 use Rattle.refusals.proofs.TableChecks.{fine, tables-refused}
-use Rattle.desk_core.proofs.BestStart.{best-asks, told}
+use Rattle.starts.proofs.BestStart.{best-asks}
+use Rattle.desk_core.proofs.Granted.{told}
 use Rattle.desk_core.proofs.offer.Statement.{statement}
 use Rattle.desk_core.proofs.offer.Tie as tie
 

@@ -18,7 +18,7 @@ use Rattle.rules.proofs.LinkColumns.{links-count}
 use Rattle.rules.proofs.Exits.{refused-with, stopped, all-passed, accepted}
 use Rattle.refusals.proofs.TableChecks.{fine, tables-refused}
 use Rattle.desk_core.proofs.Handed.{handed-shown}
-use Rattle.desk_core.proofs.BestStart.{figure-asks, figure-is}
+use Rattle.desk_core.proofs.Figures.{figure-asks, figure-is}
 use Rattle.desk_core.proofs.show.Statement.{statement}
 use Rattle.desk_core.proofs.show.Tie as tie
 

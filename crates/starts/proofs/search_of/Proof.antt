@@ -1,9 +1,9 @@
 -- `search_of` meets its contract: the span is the one that the head gives.
 use mathlib.Core.Path.{ap}
 use borrow.Author.Needs.{needs}
-use Rattle.desk_core.specs.Lent.{ends-of}
-use Rattle.desk_core.proofs.search_of.Statement.{statement}
-use Rattle.desk_core.proofs.search_of.Tie as tie
+use Rattle.starts.specs.Asked.{ends-of}
+use Rattle.starts.proofs.search_of.Statement.{statement}
+use Rattle.starts.proofs.search_of.Tie as tie
 
 span-of-requires : tie.Need-span-of-requires
 span-of-requires c κs = search needs

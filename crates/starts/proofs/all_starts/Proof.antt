@@ -2,8 +2,8 @@
 use mathlib.Core.Path.{_∙_}
 use native.Mathlib.Omega.{arith}
 use borrow.Author.Needs.{needs}
-use Rattle.desk_core.proofs.all_starts.Statement.{statement}
-use Rattle.desk_core.proofs.all_starts.Tie as tie
+use Rattle.starts.proofs.all_starts.Statement.{statement}
+use Rattle.starts.proofs.all_starts.Tie as tie
 
 low-minute-requires : tie.Need-low-minute-requires
 low-minute-requires c κs = search needs

@@ -1,0 +1,2 @@
+-- The laws that the calls rest on.
+pub mod BestStart
