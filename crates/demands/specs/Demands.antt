@@ -3,17 +3,19 @@
 use mathlib.Core.Path.{_≡_}
 use mathlib.Core.Logic.{_⊎_}
 use mathlib.Core.List.{List, List·Memᴰ}
-use Prim.Native.Nat.{ℕ, _≤_}
+use Prim.Native.Nat.{ℕ, _≤_, _<_}
+use lib.ListN.{length}
 use Rattle.units.specs.declared.Link.{Link}
 use Rattle.units.specs.declared.Request.{Request}
+use Rattle.units.specs.Lists.{All}
 use Rattle.units.specs.Refusals as refusals
 use Rattle.histories.specs.Kinds as kinds
 use Rattle.histories.specs.Demands as demands
-use Rattle.rules.specs.Plain.{Plain, low}
+use Rattle.rules.specs.Plain.{Plain, until, capacity, low}
 use Rattle.rules.specs.Calls.{Ask, book, offer, list, cancel, move-clock, show, Call, set-up-with, ask, done, refuse}
 use Rattle.rules.specs.Choosing.{PathAt, RightChoice}
 use Rattle.rules.specs.Tables.{Tables, Fine, held, events-of}
-use Rattle.rules.specs.Desk.{bandwidth-desk}
+use Rattle.rules.specs.Desk.{bandwidth-desk, Keeps}
 
 -- what a desk does with a call
 abbrev pub Desk : Type 0
@@ -54,6 +56,13 @@ RefusalKeeps desk = (links : List Link) (t : Tables) (c : Call) (k : ℕ) → de
 abbrev pub SameMinute : Desk → Type 0
 SameMinute desk = (links : List Link) (t : Tables) → Fine links t
     → (desk links t (ask (move-clock (held t .clock))) .answer ≡ done) × (desk links t (ask (move-clock (held t .clock))) .tables ≡ t)
+
+-- 'The last row holds without end and shows full capacity': at every moment of a history, from the end of the last booking on.
+abbrev pub LastRowFull : Desk → Type 0
+LastRowFull desk =
+    (links : List Link) (h : demands.Moment bandwidth-desk desk links) (l m : ℕ) → l < length links → demands.plain bandwidth-desk desk h .clock ≤ m
+    → All (λ b. until (demands.plain bandwidth-desk desk h) b ≤ m) (demands.plain bandwidth-desk desk h .bookings)
+    → Keeps (demands.now bandwidth-desk desk h) l m (capacity links l)
 
 -- Low and event times lose nothing: a path that can start at m can start no later at low or at an event.
 abbrev pub EventsSuffice : Type 0

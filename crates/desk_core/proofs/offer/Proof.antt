@@ -1,17 +1,16 @@
 -- `offer` meets its contract: each way out is one of the outcome's; the start is the plain book's best.
-use mathlib.Core.Path.{_≡_, refl, sym, _∙_}
+use mathlib.Core.Path.{_≡_, refl, sym, ap₂, _∙_}
 use mathlib.Core.Bool.{true}
 use borrow.Author.Needs.{needs}
 use denote.Ref.{now}
 use Rattle.rules.specs.Tables.{held, lent}
 use Rattle.units.specs.LinkTables.{links-of}
 use Rattle.rules.proofs.Tests.{request-right}
-use Rattle.rules.specs.Calls.{Ask, ask, first-refusal, own-checks, best}
+use Rattle.rules.specs.Calls.{Ask, ask, starts, refuse, first-refusal, own-checks}
 use Rattle.rules.proofs.Exits.{refused-with, stopped, all-passed, accepted}
 use Rattle.desk_core.proofs.Handed.{handed-grant}
 use Rattle.refusals.proofs.TableChecks.{fine, tables-refused}
-use Rattle.starts.proofs.BestStart.{best-asks}
-use Rattle.desk_core.proofs.Granted.{told}
+use Rattle.starts.proofs.BestStart.{best-asks, chosen-start, chosen-none, best-starts, best-none}
 use Rattle.desk_core.proofs.offer.Statement.{statement}
 use Rattle.desk_core.proofs.offer.Tie as tie
 
@@ -49,17 +48,37 @@ best-start-requires c κs = let a = c .before .before .before .before .before .b
     let q = request-right (a .request) (all-passed l t (Ask.offer (a .request)) (f .is-sized) refl (f .is-sound) passes .0) in
     best-asks (a .links) t f (a .request) q
 
-choice-record-requires : tie.Need-choice-record-requires
-choice-record-requires c κs = search needs
+enum-known-choice : tie.Need-enum-known-choice
+enum-known-choice c = search needs
+
+enum-told : tie.Need-enum-told
+enum-told c = search needs
+
+refused-requires-3 : tie.Need-refused-requires-3
+refused-requires-3 c κs = search needs
 
 returns-3 : tie.Need-returns-3
-returns-3 c = let a = c .before .before .before .before .before .before .before .before .before .args in
+returns-3 c = let a = c .before .before .before .before .before .before .before .before .before .before .before .before .args in
     let l = links-of (a .links) in
     let t = lent (a .head) (now (a .events)) (now (a .free)) (now (a .book)) in
-    let f = fine l t true (sym (c .before .before .before .before .before .table-refusal .ensures) ∙ c .before .before .before .before .if1 .left) in
-    let passes : first-refusal (own-checks l (held t) (Ask.offer (a .request))) ≡ 0 = sym (c .before .before .before .offer-refusal .ensures) ∙ c .before .before .if2 .left in
+    let f = fine l t true (sym (c .before .before .before .before .before .before .before .before .table-refusal .ensures) ∙ c .before .before .before .before .before .before .before .if1 .left) in
+    let passes : first-refusal (own-checks l (held t) (Ask.offer (a .request))) ≡ 0 = sym (c .before .before .before .before .before .before .offer-refusal .ensures) ∙ c .before .before .before .before .before .if2 .left in
     let q = request-right (a .request) (all-passed l t (Ask.offer (a .request)) (f .is-sized) refl (f .is-sound) passes .0) in
-    c .choice-record .ensures ∙ told (a .links) t f (a .request) q _ (c .before .best-start .ensures) ∙ handed-grant l t (ask (Ask.offer (a .request))) _ (accepted l t (Ask.offer (a .request)) (f .is-sized) refl (f .is-sound) passes (best l (held t) (a .request)) refl)
+    let none = chosen-none (a .links) t f (a .request) q _ (c .before .before .before .before .best-start .ensures) _ (c .before .enum-told .given .1) in
+    c .refused3 .ensures ∙ handed-grant l t (ask (Ask.offer (a .request))) (_) (accepted l t (Ask.offer (a .request)) (f .is-sized) refl (f .is-sound) passes (refuse 8) (best-none (a .links) t f (a .request) q none))
+
+started-requires : tie.Need-started-requires
+started-requires c κs = search needs
+
+returns-4 : tie.Need-returns-4
+returns-4 c = let a = c .before .before .before .before .before .before .before .before .before .before .before .before .before .args in
+    let l = links-of (a .links) in
+    let t = lent (a .head) (now (a .events)) (now (a .free)) (now (a .book)) in
+    let f = fine l t true (sym (c .before .before .before .before .before .before .before .before .before .table-refusal .ensures) ∙ c .before .before .before .before .before .before .before .before .if1 .left) in
+    let passes : first-refusal (own-checks l (held t) (Ask.offer (a .request))) ≡ 0 = sym (c .before .before .before .before .before .before .before .offer-refusal .ensures) ∙ c .before .before .before .before .before .before .if2 .left in
+    let q = request-right (a .request) (all-passed l t (Ask.offer (a .request)) (f .is-sized) refl (f .is-sound) passes .0) in
+    let s = chosen-start (a .links) t f (a .request) q _ (c .before .before .before .before .before .best-start .ensures) _ (c .before .before .choice .given .1) in
+    c .started .ensures ∙ ap₂ (λ x y. record { refusal = 0; start = x; path = y }) (s .start-is) (s .path-is) ∙ handed-grant l t (ask (Ask.offer (a .request))) _ (accepted l t (Ask.offer (a .request)) (f .is-sized) refl (f .is-sound) passes (starts (s .grant)) (best-starts (a .links) t f (a .request) q (s .grant) (s .is-best)))
 
 pub offer-spec : {M : Type 1} → statement M
-offer-spec = tie.close (tie.spec table-refusal-requires refused-requires returns offer-refusal-requires refused-requires-2 returns-2 best-start-requires choice-record-requires returns-3)
+offer-spec = tie.close (tie.spec table-refusal-requires refused-requires returns offer-refusal-requires refused-requires-2 returns-2 best-start-requires enum-known-choice enum-told refused-requires-3 returns-3 started-requires returns-4)
