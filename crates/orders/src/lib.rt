@@ -10,7 +10,7 @@ use layout::Wish;
 use path_search::Path;
 use path_search::no_path;
 use reading::read_order;
-use record::request_of;
+use reading::request_of;
 use report::Report;
 use report::write_line;
 use units::Head;

@@ -14,7 +14,9 @@ use units::BAD_LENGTH;
 use units::Bandwidth;
 use units::Duration;
 use units::Link;
+use units::MAX_MINUTE;
 use units::Minute;
+use units::Request;
 ghost use mathlib.Core.Path.{_≡_};
 ghost use Prim.Native.Nat.{_+_, _*_, _^_, _≤_};
 ghost use mathlib.Core.List.{_∷_, []};
@@ -22,6 +24,7 @@ ghost use lib.Dec.{eqb};
 ghost use lib.ListN.{length, take, drop};
 ghost use Rattle.units.specs.Lists.{all};
 ghost use Rattle.layout.specs.Layout.{big-endian, cut, order-widths, link-widths};
+ghost use Rattle.layout.specs.Values.{latest-minute, request-of};
 ghost use Rattle.layout.specs.Records.{order-fields, link-fields, latest-of, wish-of, order-from, link-from, order-read, link-read};
 
 // The bytes of a word.
@@ -230,4 +233,32 @@ pub fn read_link(bytes: &[u8]) -> LinkRead
         return LinkRead::Refused(BAD_LENGTH);
     }
     link_from(cut_link(word(bytes, 0)))
+}
+
+// The minute of a latest start; that of an open one is the last.
+fn latest_minute(latest: Latest) -> u32
+    ensures { λ r. ⌜ r ≡ latest-minute latest ⌝ }
+{
+    match latest {
+        Latest::Open => MAX_MINUTE,
+        Latest::Given(m) => m.0,
+    }
+}
+
+// The request of a booking or an offer, its latest start a minute.
+pub fn request_of(w: Wish) -> Request
+    ensures { λ r. ⌜ r ≡ request-of w ⌝ }
+{
+    let bandwidth = w.bandwidth;
+    let duration = w.duration;
+    let earliest = w.earliest;
+    let latest = w.latest;
+    Request {
+        from: w.from,
+        to: w.to,
+        bandwidth,
+        duration,
+        earliest,
+        latest: Minute(latest_minute(latest)),
+    }
 }

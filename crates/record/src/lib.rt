@@ -14,10 +14,10 @@ use reading::CLOCK;
 use reading::OFFER;
 use reading::read_link;
 use reading::read_order;
+use reading::request_of;
 use units::Bandwidth;
 use units::Duration;
 use units::Link;
-use units::MAX_MINUTE;
 use units::Minute;
 use units::Request;
 use writing::write_link;
@@ -26,17 +26,7 @@ ghost use mathlib.Core.Path.{_≡_};
 ghost use lib.ListN.{length};
 ghost use Rattle.layout.specs.Records.{order-read, link-read};
 ghost use Rattle.layout.specs.Forms.{latest-from, form-of, order-refusal, order-written, link-refusal, link-written};
-ghost use Rattle.layout.specs.Values.{latest-minute, open-flag, request-of, only-earliest, request-values, plain-values, values-of, order-values, link-values};
-
-// The minute of a latest start; that of an open one is the last.
-fn latest_minute(latest: Latest) -> u32
-    ensures { λ r. ⌜ r ≡ latest-minute latest ⌝ }
-{
-    match latest {
-        Latest::Open => MAX_MINUTE,
-        Latest::Given(m) => m.0,
-    }
-}
+ghost use Rattle.layout.specs.Values.{open-flag, only-earliest, request-values, plain-values, values-of, order-values, link-values};
 
 // 1 where a latest start is open, else 0.
 fn open_flag(latest: Latest) -> u32
@@ -45,24 +35,6 @@ fn open_flag(latest: Latest) -> u32
     match latest {
         Latest::Open => 1,
         Latest::Given(_) => 0,
-    }
-}
-
-// The request of a booking or an offer, its latest start a minute.
-pub fn request_of(w: Wish) -> Request
-    ensures { λ r. ⌜ r ≡ request-of w ⌝ }
-{
-    let bandwidth = w.bandwidth;
-    let duration = w.duration;
-    let earliest = w.earliest;
-    let latest = w.latest;
-    Request {
-        from: w.from,
-        to: w.to,
-        bandwidth,
-        duration,
-        earliest,
-        latest: Minute(latest_minute(latest)),
     }
 }
 

@@ -1,7 +1,7 @@
 -- `request_of` meets its contract, by what `latest_minute` promises.
 use borrow.Author.Needs.{needs}
-use Rattle.record.proofs.request_of.Statement.{statement}
-use Rattle.record.proofs.request_of.Tie as tie
+use Rattle.reading.proofs.request_of.Statement.{statement}
+use Rattle.reading.proofs.request_of.Tie as tie
 
 latest-minute-requires : tie.Need-latest-minute-requires
 latest-minute-requires c κs = search needs
