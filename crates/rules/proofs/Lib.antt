@@ -1,4 +1,5 @@
 -- The laws of the rules, on which the demands and the code rest.
+pub mod Feeding
 pub mod Uses
 pub mod Book
 pub mod Checks

@@ -1,5 +1,6 @@
 pub mod Plain
 pub mod Calls
+pub mod Feeding
 pub mod Tables
 pub mod Desk
 pub mod Sound
