@@ -1,5 +1,5 @@
--- What document 01 says of the plain book as it is fed, sentence by sentence. The tables that a call leaves are those of the plain
--- book's next state, so that state has to be right by itself.
+-- What document 01 says of the plain book as it is fed, but for which bookings a cancellation and a clock move take out. The tables
+-- that a call leaves are those of the plain book's next state, so that state has to be right by itself.
 use mathlib.Core.Path.{_≡_}
 use mathlib.Core.List.{[], _∷_}
 use Prim.Native.Nat.{ℕ}
