@@ -1,5 +1,7 @@
 // The bandwidth desk's places: 36 figures, a booking each. The desk calls this to read a place and to put a booking in; what
 // asks no more than a place's size stands in `places`. It never sees what is free.
+#![tactic(auto)]
+
 ghost use Rattle.std.specs.Prelude.{◌≡◌, ◌++◌, ◌+◌, ◌*◌, ◌≤◌, length, take, drop};
 ghost use Rattle.units.specs.Limits.{most_hops, place_size};
 ghost use Rattle.book.specs.Places.{booking_in, figures, with_booking};
@@ -16,7 +18,7 @@ const PATH: usize = 5;
 
 // A booking as a place of the book holds it: a path of `count` links, zero past the last.
 #[repr(C)]
-#[derive(Drop)]
+#[derive(Clone, Copy)]
 pub struct Booking {
     pub number: u32,
     pub start: Minute,

@@ -1,5 +1,7 @@
 // What an accepted call writes: tables that are sound become those of the plain book after the call. Each function answers
 // the head after it. The calls ask first; nothing here refuses.
+#![tactic(auto)]
+
 ghost use Rattle.std.specs.Prelude.{◌≡◌, true, ◌≤◌, length};
 ghost use Rattle.units.specs.Limits.{last_minute, place_size};
 ghost use Rattle.places.specs.declared.Standing.TheVariants.{At};

@@ -1,5 +1,7 @@
 // The free table: what each link has free from each event on, 64 figures a row. The choice of a start and the desk call
 // this. It knows rows, links and minutes; it never sees a path or a booking.
+#![tactic(auto)]
+
 ghost use Rattle.std.specs.Prelude.{◌≡◌, false, ◌&&◌, ◌-◌, ◌*◌, ◌≤◌, ◌<◌, leb, length, get_or, take};
 ghost use Rattle.units.specs.Limits.{most_links};
 ghost use Rattle.timeline.specs.Events.{row_at};

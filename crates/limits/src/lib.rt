@@ -1,5 +1,7 @@
 // Whether figures are within document 01's limits: a figure of a range, the ends of a link or a request, the links, the fields
 // of a request, the sizes of what is lent. The soundness check and the refusals ask this; nothing here knows a refusal number.
+#![tactic(auto)]
+
 ghost use Rattle.std.specs.Prelude.{◌≡◌, ◌≤◌};
 ghost use Rattle.units.specs.Limits.{most_links};
 ghost use Rattle.units.specs.Lists.{within};

@@ -1,6 +1,8 @@
 // Every start there is: the ranges of a window's possible start minutes, written into a lent list. The desk's listing calls
 // it. It tries low, the events and the minutes at which a span's end meets an event, never minute by minute, and never sees
 // a booking.
+#![tactic(auto)]
+
 ghost use Rattle.std.specs.Prelude.{◌≡◌, true, false, suc, ◌≤◌, length};
 ghost use Rattle.units.specs.Limits.{most_ranges, list_size};
 ghost use Rattle.choice.specs.Answer.{possible_for, choice_for, Askable};

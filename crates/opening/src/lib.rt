@@ -1,5 +1,7 @@
 // The first bytes of a session to its desk and the desk's own line. The program `run_orders` calls `open_desk`, and decides
 // nothing itself. Every input is answered.
+#![tactic(auto)]
+
 ghost use Rattle.std.specs.Prelude.{◌≡◌, [], ◌+◌, ◌*◌, ◌≤◌, length};
 ghost use Rattle.units.specs.Limits.{most_links};
 ghost use Rattle.layout.specs.Layout.{lead_bytes, link_bytes};
@@ -15,14 +17,14 @@ use report::{Report, write_line};
 use units::{BAD_LENGTH, BAD_SIZE, Head, LINKS, LinkTable, PATH_LINKS, empty_table, put};
 
 // The links of a session's first bytes; where the refusal number is not 0 they say nothing.
-#[derive(Drop)]
+#[derive(Clone, Copy)]
 pub struct LinksFound {
     pub refusal: u32,
     pub table: LinkTable,
 }
 
 // A desk that was opened: the refusal number, 0 if there is none, its head and its links.
-#[derive(Drop)]
+#[derive(Clone, Copy)]
 pub struct Opened {
     pub refusal: u32,
     pub head: Head,

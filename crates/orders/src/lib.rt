@@ -1,5 +1,7 @@
 // One order's bytes and a desk's tables to the order's answer and its line. The program `run_orders` calls `run_order`, and
 // decides nothing itself. Every input is answered; an order that is refused changes nothing.
+#![tactic(auto)]
+
 ghost use Rattle.std.specs.Prelude.{◌≡◌, ◌+◌, ◌≤◌, length};
 ghost use Rattle.layout.specs.declared.Order.TheVariants.{Book, Cancel, Clock, Offer};
 ghost use Rattle.units.specs.LinkTables.{links_of};
@@ -16,7 +18,7 @@ use report::{Report, write_line};
 use units::{Head, LinkTable, Minute};
 
 // The answer to an order: the head after it, what its line says, and the path beside it.
-#[derive(Drop)]
+#[derive(Clone, Copy)]
 pub struct Answered {
     pub head: Head,
     pub report: Report,
@@ -24,7 +26,7 @@ pub struct Answered {
 }
 
 // An order's line: the head after the order, and the index behind the line.
-#[derive(Drop)]
+#[derive(Clone, Copy)]
 pub struct Line {
     pub head: Head,
     pub next: usize,

@@ -1,6 +1,7 @@
 // The path search: of all chains of usable links from one node to another, the one of fewest links, then of the lower
 // link number at the first difference. `choice` calls it for each start that it tries. It knows nothing of time or
 // bookings, and draws no tie at random.
+#![tactic(auto)]
 
 ghost use Rattle.std.specs.Prelude.{◌≡◌, [], false, ◌&&◌, suc, ◌≤◌, min, eqb, ltb};
 ghost use Rattle.units.specs.Limits.{last_node};
@@ -24,7 +25,7 @@ const FAR: u32 = LAST_NODE + 1;
 
 // The ends of the links 0 to count - 1.
 #[repr(C)]
-#[derive(Drop)]
+#[derive(Clone, Copy)]
 pub struct LinkEnds {
     pub count: usize,
     pub from: [u32; LINKS],
@@ -33,21 +34,21 @@ pub struct LinkEnds {
 
 // The links that can be used.
 #[repr(C)]
-#[derive(Drop)]
+#[derive(Clone, Copy)]
 pub struct LinkSet {
     pub has: [bool; LINKS],
 }
 
 // A path: its count of links, and their numbers in travel order, zero past the last.
 #[repr(C)]
-#[derive(Drop)]
+#[derive(Clone, Copy)]
 pub struct Path {
     pub count: u32,
     pub links: [u32; PATH_LINKS],
 }
 
 // The figures after a round, and whether it reached a node.
-#[derive(Drop)]
+#[derive(Clone, Copy)]
 struct AfterRound {
     table: [u32; NODES],
     reached: bool,
@@ -55,7 +56,7 @@ struct AfterRound {
 
 // The rounds done so far: the figures after them, their number, and whether the last of them reached a node.
 #[repr(C)]
-#[derive(Drop)]
+#[derive(Clone, Copy)]
 pub struct RoundsDone {
     pub table: [u32; NODES],
     pub number: u32,

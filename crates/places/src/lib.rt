@@ -1,6 +1,8 @@
 // A book table: places of `size` figures, a booking each by rising number, zero past the last. A place begins with number,
 // start and duration in every kind of desk; what stands behind them is the kind's own. A desk calls this to find a number,
 // make room for a place, take one out and drop those that have ended. It never sees what is free.
+#![tactic(auto)]
+
 ghost use Rattle.std.specs.Prelude.{◌≡◌, ◌++◌, ◌+◌, ◌*◌, ◌≤◌, ◌<◌, length, drop, replicate};
 ghost use Rattle.places.specs.Places.{duration_figure, find, slot, with_place, without_place, place_in, place_copied, stands_at, still_standing, only_places};
 
@@ -12,7 +14,7 @@ pub const START: usize = 1;
 pub const DURATION: usize = 2;
 
 // Where a booking number stands: at a place, or nowhere.
-#[derive(Drop)]
+#[derive(Clone, Copy)]
 pub enum Standing {
     At(usize),
     Nowhere,

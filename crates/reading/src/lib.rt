@@ -1,5 +1,7 @@
 // The two records of document 01 read from bytes of any number. Nothing here knows a desk: whether a figure is in range for a
 // booking is not asked.
+#![tactic(auto)]
+
 ghost use Rattle.std.specs.Prelude.{◌≡◌, ◌+◌, ◌*◌, ◌^◌, ◌≤◌, ◌∷◌, [], eqb, length, take, drop};
 ghost use Rattle.units.specs.Lists.{all};
 ghost use Rattle.layout.specs.Layout.{big_endian, cut, order_widths, link_widths};

@@ -1,5 +1,7 @@
 // The events and free figures of a head and its book: one booking added to them, and all of them anew. Booking adds one;
 // cancelling, moving the clock and the soundness check go through all. Nothing here looks at whether a booking is right.
+#![tactic(auto)]
+
 ghost use Rattle.std.specs.Prelude.{◌≡◌, true, ◌↔◌, ◌<◌};
 ghost use Rattle.units.specs.Limits.{most_links};
 ghost use Rattle.timeline.specs.Insertion.{with_span, with_span_rows, Room};

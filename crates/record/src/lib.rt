@@ -1,5 +1,7 @@
 // The two records of document 01 for C: the station's C daemon calls `gcr_read_order` and `gcr_read_link`, a branch desk's
 // program `gcr_write_order` and `gcr_write_link`.
+#![tactic(auto)]
+
 ghost use Rattle.std.specs.Prelude.{◌≡◌, length};
 ghost use Rattle.layout.specs.Records.{order_read, link_read};
 ghost use Rattle.layout.specs.Forms.{latest_from, form_of, order_refusal, order_written, link_refusal, link_written};

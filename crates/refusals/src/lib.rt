@@ -1,5 +1,7 @@
 // The checks of the calls, in document 01's order: each function answers the number of the first check that a call does
 // not pass, or 0. Nothing here writes a table.
+#![tactic(auto)]
+
 ghost use Rattle.std.specs.Prelude.{◌≡◌, [], true, ◌*◌, ◌≤◌, eqb, length};
 ghost use Rattle.units.specs.Limits.{place_size, list_size};
 ghost use Rattle.rules.specs.Calls.{Ask, set_up, first_refusal, own_checks};

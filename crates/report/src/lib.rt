@@ -1,6 +1,8 @@
 // An answer as the bytes of its line, exactly as document 01 prints it, written into a buffer that the caller lends. The
 // program calls `write_line`; the tests and a program in C call `gcr_write_line`. Nothing here knows a desk or decides an
 // answer.
+#![tactic(auto)]
+
 ghost use Rattle.std.specs.Prelude.{◌≡◌, ◌∷◌, [], ◌++◌, ◌+◌, ◌<◌, ◌≤◌, length, take};
 ghost use Rattle.units.specs.Limits.{most_hops};
 ghost use Rattle.report.specs.Decimal.{digit, decimal};
@@ -27,7 +29,7 @@ const CANCELLED: u32 = 4;
 const CLOCK: u32 = 5;
 
 // What a line says. The order's place and the path stand beside it.
-#[derive(Drop)]
+#[derive(Clone, Copy)]
 pub enum Report {
     DeskLinks(u32),
     DeskRefused(u32),

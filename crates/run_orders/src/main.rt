@@ -1,6 +1,8 @@
 // The program: a session of orders from standard input to standard output, in large blocks. It decides nothing: what a
 // desk and an order are answered, and how the line reads, is in the crates `opening` and `orders`. Any input ends in an orderly way; a
 // read that fails ends the input.
+#![tactic(auto)]
+
 ghost use Rattle.std.specs.Prelude.{◌≡◌, ◌+◌, ◌<◌, ◌≤◌, length};
 ghost use Rattle.layout.specs.Layout.{most_first_bytes};
 ghost use Rattle.report.specs.Line.{max_line};
@@ -13,14 +15,14 @@ use report::MAX_LINE;
 use units::{BOOK_FIGURES, EVENTS, FREE_FIGURES, Head, LinkTable, Minute};
 
 // How many bytes came where one was asked for, and the byte.
-#[derive(Drop)]
+#[derive(Clone, Copy)]
 struct FirstByte {
     came: usize,
     value: u8,
 }
 
 // What goes from block to block: the head, the place of the next order, and whether the input may go on.
-#[derive(Drop)]
+#[derive(Clone, Copy)]
 struct Session {
     head: Head,
     place: u64,

@@ -1,5 +1,7 @@
 // Document 01's 'sound': links and book obey the rules, no link is oversold, and head, events and free figures are the
 // ones that links, clock and book give. Every call but the set-up asks this first. Nothing here writes a lent table.
+#![tactic(auto)]
+
 ghost use Rattle.std.specs.Prelude.{◌≡◌, [], true, ◌↔◌, ◌≤◌};
 ghost use Rattle.units.specs.Limits.{most_hops};
 ghost use Rattle.units.specs.Lists.{equal};

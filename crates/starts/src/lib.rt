@@ -1,5 +1,7 @@
 // A request's search on the tables of a desk: the earliest start of its window, and every start. The calls ask first whether
 // the request and the tables are right. Nothing here writes a table.
+#![tactic(auto)]
+
 ghost use Rattle.std.specs.Prelude.{◌≡◌, ◌≤◌, length};
 ghost use Rattle.units.specs.Limits.{last_shown, most_ranges, list_size};
 ghost use Rattle.units.specs.Spans.{low_of, span_of};

@@ -1,6 +1,8 @@
 // The event table and the rows beside it, as their owner lends them: the row that holds in a minute, the count of events,
 // and one event, or the two of a span, put in with a copy of the row before. The free table and the desk call this; it
 // never looks at what a row holds.
+#![tactic(auto)]
+
 ghost use Rattle.std.specs.Prelude.{◌≡◌, [], ◌∷◌, ◌+◌, ◌≤◌, ◌<◌, length, take};
 ghost use Rattle.units.specs.Limits.{most_links};
 ghost use Rattle.units.specs.Lists.{put_piece};

@@ -1,6 +1,8 @@
 // The quantities of a reservation, each with a type of its own, the records that calls pass by value, and the limits
 // of document 01; its refusal numbers; the end of a span; links as columns; and zeros for what a table does not use. Every
 // crate uses them; nothing here decides anything.
+#![tactic(auto)]
+
 ghost use Rattle.std.specs.Prelude.{◌≡◌, ◌++◌, ◌-◌, ◌≤◌, ◌<◌, length, take, replicate};
 ghost use Rattle.units.specs.Limits.{most_links, last_shown};
 ghost use Rattle.units.specs.Spans.{low_of, span_of, most_span, release};
@@ -82,27 +84,27 @@ pub const BAD_LIST: u32 = 13;
 
 // A point in time, in whole minutes.
 #[repr(C)]
-#[derive(Drop)]
+#[derive(Clone, Copy)]
 pub struct Minute(pub u32);
 
 // A length of time, in whole minutes.
 #[repr(C)]
-#[derive(Drop)]
+#[derive(Clone, Copy)]
 pub struct Duration(pub u32);
 
 // A bandwidth, in Mb/s.
 #[repr(C)]
-#[derive(Drop)]
+#[derive(Clone, Copy)]
 pub struct Bandwidth(pub u32);
 
 // A link's place in the link list, from 0.
 #[repr(C)]
-#[derive(Drop)]
+#[derive(Clone, Copy)]
 pub struct LinkNumber(pub u32);
 
 // A link from one node to another, one way.
 #[repr(C)]
-#[derive(Drop)]
+#[derive(Clone, Copy)]
 pub struct Link {
     pub from: u32,
     pub to: u32,
@@ -111,7 +113,7 @@ pub struct Link {
 
 // What a customer asks for. A latest start that is open is given as the last minute.
 #[repr(C)]
-#[derive(Drop)]
+#[derive(Clone, Copy)]
 pub struct Request {
     pub from: u32,
     pub to: u32,
@@ -123,7 +125,7 @@ pub struct Request {
 
 // The head of a desk: its clock, its number of links and its number of standing bookings.
 #[repr(C)]
-#[derive(Drop)]
+#[derive(Clone, Copy)]
 pub struct Head {
     pub clock: Minute,
     pub links: u32,
@@ -172,7 +174,7 @@ pub fn release(head: Head, start: Minute, duration: Duration) -> u64
 }
 
 // The list of links by value: its true length, and a column for each field of the first 64 links, zero past the last.
-#[derive(Drop)]
+#[derive(Clone, Copy)]
 pub struct LinkTable {
     pub count: usize,
     pub from: [u32; LINKS],

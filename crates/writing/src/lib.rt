@@ -1,5 +1,7 @@
 // How a form becomes bytes: which forms are refused, the words of a record, and a word as its bytes. Only `write_word` and
 // `write_words` write.
+#![tactic(auto)]
+
 ghost use Rattle.std.specs.Prelude.{◌≡◌, true, ◌&&◌, ◌++◌, ◌+◌, ◌*◌, ◌^◌, ◌≤◌, ◌<◌, ltb, length, drop};
 ghost use Rattle.layout.specs.Layout.{pack, fits, spelled, order_widths, link_widths};
 ghost use Rattle.layout.specs.Records.{is_order};
@@ -18,7 +20,7 @@ const KINDS: u64 = 1 << 4;
 const DURATIONS: u64 = 1 << 20;
 
 // The first and the last eight bytes of an order as numbers.
-#[derive(Drop)]
+#[derive(Clone, Copy)]
 pub struct Words {
     pub high: u64,
     pub low: u64,
