@@ -45,8 +45,8 @@ fn release_place(
     number: u32,
     place: usize,
 ) -> Head
-    requires fact_1 { Fine (links_of links) (lent head events.old free.old book.old) }
-    requires fact_2 { find place_size number book.old head.bookings ≡ At place }
+    requires fine { Fine (links_of links) (lent head events.old free.old book.old) }
+    requires found { find place_size number book.old head.bookings ≡ At place }
     ensures { (lent result events.new free.new book.new) ≡ tables (links_of links) (take_out number (held (lent head events.old free.old book.old))) }
 {
     let mut after = head;
@@ -65,8 +65,8 @@ pub fn take_out(
     book: &mut [u32],
     number: u32,
 ) -> Head
-    requires fact_1 { Fine (links_of links) (lent head events.old free.old book.old) }
-    requires fact_2 { stands number (held (lent head events.old free.old book.old)).bookings ≡ true }
+    requires fine { Fine (links_of links) (lent head events.old free.old book.old) }
+    requires stands { stands number (held (lent head events.old free.old book.old)).bookings ≡ true }
     ensures { (lent result events.new free.new book.new) ≡ tables (links_of links) (take_out number (held (lent head events.old free.old book.old))) }
 {
     let Standing::At(place) = find(book, PLACE, head.bookings as usize, number) else {
@@ -84,8 +84,8 @@ pub fn advance(
     book: &mut [u32],
     minute: Minute,
 ) -> Head
-    requires fact_1 { Fine (links_of links) (lent head events.old free.old book.old) }
-    requires fact_2 { minute.0 ≤ last_minute }
+    requires fine { Fine (links_of links) (lent head events.old free.old book.old) }
+    requires in_range { minute.0 ≤ last_minute }
     ensures { (lent result events.new free.new book.new) ≡ tables (links_of links) (move_to minute.0 (held (lent head events.old free.old book.old))) }
 {
     let mut after = head;
@@ -107,8 +107,8 @@ pub fn enter(
     start: Minute,
     path: Path,
 ) -> Head
-    requires fact_1 { Fine (links_of links) (lent head events.old free.old book.old) }
-    requires fact_2 { Grantable (links_of links) (held (lent head events.old free.old book.old)) number request start path }
+    requires fine { Fine (links_of links) (lent head events.old free.old book.old) }
+    requires grantable { Grantable (links_of links) (held (lent head events.old free.old book.old)) number request start path }
     ensures { (lent result events.new free.new book.new) ≡ tables (links_of links) (put_in (booked number request start path) (held (lent head events.old free.old book.old))) }
 {
     let duration = request.duration;

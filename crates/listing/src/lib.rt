@@ -36,8 +36,8 @@ fn first_start(search: Search, events: &[u32], free: &[u32], low: Minute, latest
 
 // The same from a minute on that is not possible, or past the window; that minute is not tried again.
 fn next_start(search: Search, events: &[u32], free: &[u32], end: Minute, latest: Minute) -> u32
-    requires fact_1 { Askable search events.now free.now end.0 latest.0 }
-    requires fact_2 { (end.0 ≤ latest.0 → possible_for search events.now free.now end.0 ≡ false) }
+    requires askable { Askable search events.now free.now end.0 latest.0 }
+    requires end_impossible { (end.0 ≤ latest.0 → possible_for search events.now free.now end.0 ≡ false) }
     ensures { result ≡ start_or (suc latest.0) (choice_for search events.now free.now end.0 latest.0) }
 {
     if latest.0 < end.0 {
@@ -54,9 +54,9 @@ fn next_start(search: Search, events: &[u32], free: &[u32], end: Minute, latest:
 // Where the possible minutes from a possible start on end: at the first minute that is not, or after latest. A span that
 // moves on is tried again only where its end meets an event.
 fn run_end(search: Search, events: &[u32], free: &[u32], start: Minute, latest: Minute) -> u32
-    requires fact_1 { Askable search events.now free.now start.0 latest.0 }
-    requires fact_2 { start.0 ≤ latest.0 }
-    requires fact_3 { possible_for search events.now free.now start.0 ≡ true }
+    requires askable { Askable search events.now free.now start.0 latest.0 }
+    requires in_window { start.0 ≤ latest.0 }
+    requires possible { possible_for search events.now free.now start.0 ≡ true }
     ensures { RunEnd (possible_for search events.now free.now) start.0 (suc latest.0) result }
 {
     let mut end = end_minute(start, search.span).0;
@@ -88,9 +88,9 @@ pub fn list_ranges(
     latest: Minute,
     list: &mut [u32],
 ) -> u32
-    requires fact_1 { Askable search events.now free.now low.0 latest.0 }
-    requires fact_2 { length events.now ≤ most_ranges }
-    requires fact_3 { length list.old ≡ list_size }
+    requires askable { Askable search events.now free.now low.0 latest.0 }
+    requires events_fit { length events.now ≤ most_ranges }
+    requires list_sized { length list.old ≡ list_size }
     ensures { (result ≡ length (ranges_for search events.now free.now low.0 latest.0))
         × (list.new ≡ list_table (ranges_for search events.now free.now low.0 latest.0)) }
 {

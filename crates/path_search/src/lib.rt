@@ -72,8 +72,8 @@ fn leads_nearer(usable: bool, to: u32, from: u32, near: u32) -> bool
 
 // One round: each node one usable link beyond the figure `near` gets the figure after it.
 fn round(ends: LinkEnds, set: LinkSet, table: [u32; NODES], near: u32) -> AfterRound
-    requires fact_1 { InRange ends }
-    requires fact_2 { near ≤ last_node }
+    requires in_range { InRange ends }
+    requires near_bound { near ≤ last_node }
     ensures shows { Shows result.table (spread (graph ends) (usable set) (figures table) near ends.count) }
     ensures reached_value { result.reached ≡ any_below ends.count (nearer (graph ends) (usable set) (figures table) near) }
 {
@@ -206,8 +206,8 @@ fn nearer_link(
 
 // The path of `count` links from the source on, each the lowest to a node whose figure is one less.
 fn walk(ends: LinkEnds, set: LinkSet, table: [u32; NODES], source: u32, count: u32) -> Path
-    requires fact_1 { InRange ends }
-    requires fact_2 { Walkable (graph ends) (usable set) (figures table) count source }
+    requires in_range { InRange ends }
+    requires walkable { Walkable (graph ends) (usable set) (figures table) count source }
     ensures { result ≡ path_of (picked (graph ends) (usable set) (figures table) count source) }
 {
     let mut links = [0; PATH_LINKS];

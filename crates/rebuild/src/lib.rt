@@ -18,9 +18,9 @@ use units::{Head, LinkNumber, LinkTable, Minute, release};
 
 // Whether every link of a booking's path has its bandwidth free from its start until a minute.
 fn path_fits(events: &[u32], free: &[u32], b: Booking, until: Minute) -> bool
-    requires fact_1 { TablesSized events.now free.now }
-    requires fact_2 { PlaceRight b }
-    requires fact_3 { b.start.0 < until.0 }
+    requires sized { TablesSized events.now free.now }
+    requires place_right { PlaceRight b }
+    requires ends_later { b.start.0 < until.0 }
     ensures { result ≡ enough_path events.now b.start.0 until.0 b.bandwidth.0 (place_path b) free.now }
 {
     let links = b.links;
@@ -44,9 +44,9 @@ fn path_fits(events: &[u32], free: &[u32], b: Booking, until: Minute) -> bool
 
 // Takes a booking's bandwidth from every link of its path from its start until a minute.
 fn take_path(events: &[u32], free: &mut [u32], b: Booking, until: Minute)
-    requires fact_1 { TablesSized events.now free.old }
-    requires fact_2 { PlaceRight b }
-    requires fact_3 { b.start.0 < until.0 }
+    requires sized { TablesSized events.now free.old }
+    requires place_right { PlaceRight b }
+    requires ends_later { b.start.0 < until.0 }
     ensures { free.new ≡ less_path events.now b.start.0 until.0 b.bandwidth.0 (place_path b) free.old }
 {
     let links = b.links;
@@ -68,8 +68,8 @@ fn take_path(events: &[u32], free: &mut [u32], b: Booking, until: Minute)
 // Adds a booking to the events and the free figures: its two events, then its bandwidth taken. Answers whether every
 // link of its path had the bandwidth free.
 pub fn add_booking(head: Head, events: &mut [u32], free: &mut [u32], b: Booking) -> bool
-    requires fact_1 { Room events.old free.old 2 }
-    requires fact_2 { PlaceRight b }
+    requires room { Room events.old free.old 2 }
+    requires place_right { PlaceRight b }
     ensures { (events.new ≡ with_span b.start.0 (release_of head b) events.old)
         × (free.new ≡ less_path (with_span b.start.0 (release_of head b) events.old) b.start.0 (release_of head b) b.bandwidth.0 (place_path b) (with_span_rows most_links events.old b.start.0 (release_of head b) free.old))
         × (result ≡ enough_path (with_span b.start.0 (release_of head b) events.old) b.start.0 (release_of head b) b.bandwidth.0 (place_path b) (with_span_rows most_links events.old b.start.0 (release_of head b) free.old)) }

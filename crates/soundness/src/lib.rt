@@ -25,8 +25,8 @@ const NODES: usize = PATH_LINKS + 1;
 
 // Whether a booking's path has a link, each begins where the one before ended, and no node is met twice.
 fn path_right(links: LinkTable, booking: Booking) -> bool
-    requires fact_1 { LinksRight links }
-    requires fact_2 { booking.count ≤ most_hops }
+    requires links_right { LinksRight links }
+    requires count_bound { booking.count ≤ most_hops }
     ensures { result ≡ path_ok (graph (links_of links)) (place_path booking) }
 {
     let path = booking.links;
@@ -62,8 +62,8 @@ fn path_right(links: LinkTable, booking: Booking) -> bool
 
 // Whether a booking's figures are in range, its path is right and it still stands at the head's clock.
 fn booking_right(head: Head, links: LinkTable, booking: Booking) -> bool
-    requires fact_1 { LinksRight links }
-    requires fact_2 { booking.count ≤ most_hops }
+    requires links_right { LinksRight links }
+    requires count_bound { booking.count ≤ most_hops }
     ensures { result ≡ booking_ok (links_of links) (held_by head []) (booking_of booking) }
 {
     if !in_range(1, MAX_NUMBER, booking.number) {
@@ -112,8 +112,8 @@ fn path_tidy(booking: Booking) -> bool
 
 // Whether the places that a head counts have rising numbers, right bookings and tidy paths, and the others are zero.
 fn book_right(head: Head, links: LinkTable, book: &[u32]) -> bool
-    requires fact_1 { LinksRight links }
-    requires fact_2 { BookFits book.now head.bookings }
+    requires links_right { LinksRight links }
+    requires book_fits { BookFits book.now head.bookings }
     ensures { result ≡ book_ok (links_of links) book.now (held_by head book.now) }
 {
     let count = head.bookings as usize;

@@ -60,9 +60,9 @@ pub fn all_starts(
     request: Request,
     list: &mut [u32],
 ) -> u32
-    requires fact_1 { Askable (search_of head links request) events.now free.now (low_of head request) request.latest.0 }
-    requires fact_2 { length events.now ≤ most_ranges }
-    requires fact_3 { length list.old ≡ list_size }
+    requires askable { Askable (search_of head links request) events.now free.now (low_of head request) request.latest.0 }
+    requires events_fit { length events.now ≤ most_ranges }
+    requires list_sized { length list.old ≡ list_size }
     ensures { (result ≡ length (ranges_for (search_of head links request) events.now free.now (low_of head request) request.latest.0))
         × (list.new ≡ list_table (ranges_for (search_of head links request) events.now free.now (low_of head request) request.latest.0)) }
 {
