@@ -1,9 +1,6 @@
 -- `count_events` meets its contract. The first `count` places hold events, and those left to count stand behind them.
-use mathlib.Core.Path.{◌≡◌, sym}
-use Prim.Native.Nat.{◌+◌, ◌-◌, ◌≤◌}
+use mathlib.Core.Path.{sym}
 use native.Mathlib.Omega.{arith}
-use lib.ListN.{length, drop}
-use Rattle.timeline.specs.EventTable.{filled, count_events}
 use Rattle.timeline.proofs.Counts.{count_none, count_first, filled_zero, filled_next, filled_past}
 use Rattle.timeline.proofs.count_events.Goals as goal
 

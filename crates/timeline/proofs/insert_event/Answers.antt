@@ -9,14 +9,12 @@ use Rattle.timeline.specs.Events.{row_at}
 use Rattle.units.specs.Lists.{put_piece}
 use Rattle.units.proofs.Pieces.{length_rest, part_back}
 use Rattle.timeline.proofs.Insertion.{row_fits, with_event_there, with_row_there, event_put, row_put}
-use borrow.Author.Rules.{rules}
 use Rattle.timeline.proofs.insert_event.Goals as goal
 use Rattle.timeline.proofs.insert_event.Goals.{After-row_at-row}
 
 -- the row that was found has a row behind it in both tables
 row_found : (c : After-row_at-row) → c.row_at-row.result + 1 < length c.args.events.now
 row_found c =
-    
     omega (arith, row_fits c.args.minute.0 c.requires)
 
 pub offset_bounds-events-row : goal.offset_bounds-events-row

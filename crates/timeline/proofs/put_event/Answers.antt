@@ -2,7 +2,6 @@
 use mathlib.Core.Path.{ap, ◌∙◌}
 use native.Mathlib.Omega.{arith}
 use lib.ListN.{set}
-use borrow.Author.Rules.{rules}
 use Rattle.units.proofs.Pieces.{moved_all}
 use Rattle.timeline.proofs.Single.{written_over}
 use Rattle.timeline.proofs.put_event.Goals as goal

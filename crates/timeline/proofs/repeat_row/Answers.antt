@@ -1,7 +1,6 @@
 -- `repeat_row` meets its contract: moving up by a row leaves the first one twice.
 use mathlib.Core.Path.{◌∙◌}
 use native.Mathlib.Omega.{arith}
-use borrow.Author.Rules.{rules}
 use Rattle.units.specs.Limits.{most_links}
 use Rattle.units.proofs.Pieces.{moved_all}
 use Rattle.timeline.proofs.repeat_row.Goals as goal

@@ -1,10 +1,8 @@
 -- `row_at` meets its contract. The events before place `next` are passed, and what is left to pass stands from there on.
 use mathlib.Core.Path.{◌≡◌}
 use Prim.Native.Nat.{◌+◌, ◌-◌, ◌≤◌}
-use native.Mathlib.Omega.{arith}
 use lib.ListN.{length, drop}
 use Rattle.timeline.specs.Events.{passed, row_at}
-use Rattle.timeline.proofs.Rows.{row_at_rest, passed_zero, passed_late, passed_next, passed_past}
 use Rattle.timeline.proofs.row_at.Given as goal
 
 abbrev pub invariant-loop-next : goal.invariant-loop-next
