@@ -10,3 +10,5 @@ pub mod Theorems
 mod Rounds
 mod DistanceLaws
 mod Picks
+mod Done
+mod Looked

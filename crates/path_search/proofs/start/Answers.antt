@@ -7,12 +7,10 @@ use native.Mathlib.Decide.{ℕ_discrete}
 use native.Mathlib.Omega.{arith}
 use lib.ListN.{set, replicate, get_or-replicate}
 use lib.Seq.{get_or-set_same, get_or-set_other}
-use borrow.Author.Rules.{rules}
 use borrow.Author.Tests.{eq-eqb, ne_eqb}
 use Rattle.units.specs.Limits.{last_node}
 use Rattle.path_search.specs.Rounds.{far, Shows, figures, before_rounds}
-use Rattle.path_search.proofs.start.Statement.{statement}
-use Rattle.path_search.proofs.start.Tie as tie
+use Rattle.path_search.proofs.start.Goals as goal
 
 abbrev all_far : List ℕ
 all_far = replicate (suc last_node) far
@@ -27,17 +25,8 @@ shown t k v h =
       | no d ↦ get_or-set_other all_far t v 0 0 d ∙ other t v h d
     ]
 
-mul_table : tie.Need-overflow-mul-table
-mul_table c = search rules
+pub returns-then-destination-le-LAST_NODE : goal.returns-then-destination-le-LAST_NODE
+returns-then-destination-le-LAST_NODE c = shown c.args.destination (omega arith)
 
-array_write_table : tie.Need-array-write-table
-array_write_table c = search rules
-
-returns : tie.Need-returns
-returns c = shown c.before.args.destination (omega arith)
-
-returns-2 : tie.Need-returns-2
-returns-2 c v h = other c.before.args.destination v h (λ e. omega arith)
-
-pub start_spec : {M : Type 1} → statement M
-start_spec = tie.close (tie.spec mul_table array_write_table returns returns-2)
+pub returns-else-destination-le-LAST_NODE : goal.returns-else-destination-le-LAST_NODE
+returns-else-destination-le-LAST_NODE c = λ v h. other c.args.destination v h (λ e. omega arith)
