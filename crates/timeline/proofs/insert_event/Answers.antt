@@ -16,7 +16,6 @@ use Rattle.timeline.proofs.insert_event.Goals.{After-row_at-row}
 -- the row that was found has a row behind it in both tables
 row_found : (c : After-row_at-row) → c.row_at-row.result + 1 < length c.args.events.now
 row_found c =
-    
     omega (arith, row_fits c.args.minute.0 c.requires)
 
 pub offset_bounds-events-row : goal.offset_bounds-events-row

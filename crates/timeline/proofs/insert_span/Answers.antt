@@ -9,7 +9,6 @@ use Rattle.timeline.proofs.insert_span.Goals as goal
 pub insert_event-requires-2 : goal.insert_event-requires-2
 insert_event-requires-2 c =
     let i = c.insert_event in
-    
     rw i.ensures.0 (room_after c.args.end.0 i.new.rows c.requires i.auto.rows)
 
 pub returns : goal.returns

@@ -16,5 +16,4 @@ shape_of-events c = c.clear_from.auto.table ∙ simp length-set
 pub returns : goal.returns
 unfolding only_clock
 returns c =
-    
     c.clear_from.ensures ∙ clock_alone c.args.clock.0 c.args.events.now c.requires
