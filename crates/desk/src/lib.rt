@@ -1,6 +1,7 @@
 // The seven calls of a desk in the forms that document 01 names, for C: the links lent for reading as a list of records, the
 // head lent and renewed where it stands, events, free figures and book as lent slices. Each call makes the list a table of
-// columns and hands it to its core in `desk_core`; nothing is decided here. Every call is answered for every input.
+// columns and hands it to its core in `desk_core`; nothing is decided here. Every call is answered for every input. `desk_c`
+// exports them.
 // `tools/walkgen.py desk` prints the proofs.
 #![tactic(auto)]
 
@@ -42,8 +43,7 @@ fn link_table(links: &[Link]) -> LinkTable
 }
 
 // Sets a desk up at minute 0, with no bookings and all capacity free, whatever the tables held. Refuses 1 and 2.
-#[unsafe(no_mangle)]
-pub extern "C" fn gcr_set_up(
+pub fn gcr_set_up(
     head: &mut Head,
     links: &[Link],
     events: &mut [u32],
@@ -61,8 +61,7 @@ pub extern "C" fn gcr_set_up(
 }
 
 // Books the earliest start of the request's window. Refuses 1, 3, 4, 5, 6, 7 and 8.
-#[unsafe(no_mangle)]
-pub extern "C" fn gcr_book(
+pub fn gcr_book(
     head: &mut Head,
     links: &[Link],
     events: &mut [u32],
@@ -82,8 +81,7 @@ pub extern "C" fn gcr_book(
 }
 
 // A booking without commitment or number; it writes no table. Refuses 1, 3, 4, 5 and 8.
-#[unsafe(no_mangle)]
-pub extern "C" fn gcr_offer(
+pub fn gcr_offer(
     head: &Head,
     links: &[Link],
     events: &[u32],
@@ -99,8 +97,7 @@ pub extern "C" fn gcr_offer(
 
 // Every start there is: the ranges of possible start minutes of an offer's window, first and last of each, written into the
 // list with zeros behind them; it writes no table. Refuses 1, 13, 3, 4 and 5, and then leaves the list as it came.
-#[unsafe(no_mangle)]
-pub extern "C" fn gcr_list_starts(
+pub fn gcr_list_starts(
     head: &Head,
     links: &[Link],
     events: &[u32],
@@ -118,8 +115,7 @@ pub extern "C" fn gcr_list_starts(
 }
 
 // Takes a booking out; its figures come back from the clock on. Refuses 1, 3, 4 and 9.
-#[unsafe(no_mangle)]
-pub extern "C" fn gcr_cancel(
+pub fn gcr_cancel(
     head: &mut Head,
     links: &[Link],
     events: &mut [u32],
@@ -138,8 +134,7 @@ pub extern "C" fn gcr_cancel(
 }
 
 // Moves the clock on; bookings whose end is at or before it are dropped. Refuses 1, 3, 4 and 10.
-#[unsafe(no_mangle)]
-pub extern "C" fn gcr_move_clock(
+pub fn gcr_move_clock(
     head: &mut Head,
     links: &[Link],
     events: &mut [u32],
@@ -158,8 +153,7 @@ pub extern "C" fn gcr_move_clock(
 }
 
 // The bandwidth that a link has free in a minute; it writes no table. Refuses 1, 3 and 4.
-#[unsafe(no_mangle)]
-pub extern "C" fn gcr_show(
+pub fn gcr_show(
     head: &Head,
     links: &[Link],
     events: &[u32],

@@ -1,5 +1,5 @@
 // The free table: what each link has free from each event on, 64 figures a row. The choice of a start and the desk call
-// this. It knows rows, links and minutes; it never sees a path or a booking.
+// this. It knows rows, links and minutes; it never sees a path or a booking. `free_table_c` exports four of its functions to C.
 #![tactic(auto)]
 
 ghost use Rattle.std.specs.Prelude.{◌≡◌, false, ◌&&◌, ◌-◌, ◌*◌, ◌≤◌, ◌<◌, leb, length, get_or, take};
@@ -13,8 +13,7 @@ use timeline::row_at;
 use units::{Bandwidth, LINKS, LinkNumber, Minute, ROW, clear_from};
 
 // The free table of a desk without bookings: the capacities of its links at the one event, the clock.
-#[unsafe(no_mangle)]
-pub extern "C" fn reset_free(free: &mut [u32], capacities: &[u32], links: usize)
+pub fn reset_free(free: &mut [u32], capacities: &[u32], links: usize)
     requires { Capacities free.old capacities.now links }
     ensures { free.new ≡ all_free (length free.old) links capacities.now }
 {
@@ -27,8 +26,7 @@ pub extern "C" fn reset_free(free: &mut [u32], capacities: &[u32], links: usize)
 }
 
 // The bandwidth that a link has free in a minute.
-#[unsafe(no_mangle)]
-pub extern "C" fn free_figure(
+pub fn free_figure(
     events: &[u32],
     free: &[u32],
     link: LinkNumber,
@@ -68,8 +66,7 @@ fn subtract(part: &mut [u32], rows: usize, link: LinkNumber, bandwidth: Bandwidt
 }
 
 // Takes bandwidth from one link in minutes start to end - 1, where start and end are events or not later than the clock.
-#[unsafe(no_mangle)]
-pub extern "C" fn take_bandwidth(
+pub fn take_bandwidth(
     events: &[u32],
     free: &mut [u32],
     start: Minute,
@@ -104,8 +101,7 @@ fn enough(part: &[u32], rows: usize, link: LinkNumber, bandwidth: Bandwidth) -> 
 }
 
 // Whether one link has the bandwidth free in every minute from start to end - 1.
-#[unsafe(no_mangle)]
-pub extern "C" fn has_bandwidth(
+pub fn has_bandwidth(
     events: &[u32],
     free: &[u32],
     start: Minute,

@@ -127,9 +127,8 @@ fn next_round(ends: LinkEnds, set: LinkSet, done: RoundsDone) -> RoundsDone
 
 // For each node the fewest links that lead from it to the destination, or `FAR`; and the number of rounds, one more than
 // the most links that any node needs from which a chain leads there. It goes in rounds from the destination and ends at the
-// first that reaches no node. It is exported so that a test in Rust can call it.
-#[unsafe(no_mangle)]
-pub extern "C" fn distances(ends: LinkEnds, set: LinkSet, destination: u32) -> RoundsDone
+// first that reaches no node. `path_search_c` exports it, so that a test in Rust can call it.
+pub fn distances(ends: LinkEnds, set: LinkSet, destination: u32) -> RoundsDone
     requires { InRange ends }
     ensures shows { Shows result.table (distance (graph ends) (usable set) destination last_node) }
     ensures number_value { result.number ≡ suc (most_needed (graph ends) (usable set) destination) }
@@ -235,9 +234,8 @@ pub fn no_path() -> Path
 }
 
 // The path of fewest usable links from the source to the destination, the lowest of these; no link where there is none.
-// It is exported so that a test in Rust can call it.
-#[unsafe(no_mangle)]
-pub extern "C" fn find_route(ends: LinkEnds, set: LinkSet, source: u32, destination: u32) -> Path
+// `path_search_c` exports it, so that a test in Rust can call it.
+pub fn find_route(ends: LinkEnds, set: LinkSet, source: u32, destination: u32) -> Path
     requires { InRange ends }
     ensures { result ≡ answer (route (graph ends) (usable set) destination source) }
 {

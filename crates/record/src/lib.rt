@@ -1,5 +1,5 @@
 // The two records of document 01 for C: the station's C daemon calls `gcr_read_order` and `gcr_read_link`, a branch desk's
-// program `gcr_write_order` and `gcr_write_link`.
+// program `gcr_write_order` and `gcr_write_link`. `record_c` exports them.
 #![tactic(auto)]
 
 ghost use Rattle.std.specs.Prelude.{◌≡◌, length};
@@ -78,8 +78,7 @@ fn values_of(order: Order) -> OrderRecord
 }
 
 // Reads an order for C.
-#[unsafe(no_mangle)]
-pub extern "C" fn gcr_read_order(bytes: &[u8]) -> OrderRecord
+pub fn gcr_read_order(bytes: &[u8]) -> OrderRecord
     ensures { result ≡ order_values (order_read bytes.now) }
 {
     match read_order(bytes) {
@@ -89,8 +88,7 @@ pub extern "C" fn gcr_read_order(bytes: &[u8]) -> OrderRecord
 }
 
 // Reads a link for C.
-#[unsafe(no_mangle)]
-pub extern "C" fn gcr_read_link(bytes: &[u8]) -> LinkRecord
+pub fn gcr_read_link(bytes: &[u8]) -> LinkRecord
     ensures { result ≡ link_values (link_read bytes.now) }
 {
     match read_link(bytes) {
@@ -140,8 +138,7 @@ fn form_of(kind: u32, number: u32, request: Request, flag: u32) -> OrderForm
 }
 
 // Writes an order for C. A `latest_open` other than 0 is an open latest start, and the request's minute is not looked at.
-#[unsafe(no_mangle)]
-pub extern "C" fn gcr_write_order(
+pub fn gcr_write_order(
     bytes: &mut [u8],
     kind: u32,
     number: u32,
@@ -156,8 +153,7 @@ pub extern "C" fn gcr_write_order(
 }
 
 // Writes a link for C.
-#[unsafe(no_mangle)]
-pub extern "C" fn gcr_write_link(bytes: &mut [u8], link: Link) -> u32
+pub fn gcr_write_link(bytes: &mut [u8], link: Link) -> u32
     ensures value { result ≡ link_refusal (length bytes.old) link }
     ensures bytes_after { bytes.new ≡ link_written bytes.old link }
 {

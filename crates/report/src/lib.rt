@@ -1,6 +1,6 @@
 // An answer as the bytes of its line, exactly as document 01 prints it, written into a buffer that the caller lends. The
 // program calls `write_line`; the tests and a program in C call `gcr_write_line`. Nothing here knows a desk or decides an
-// answer.
+// answer. `report_c` exports `gcr_write_line`.
 #![tactic(auto)]
 
 ghost use Rattle.std.specs.Prelude.{◌≡◌, ◌∷◌, [], ◌++◌, ◌+◌, ◌<◌, ◌≤◌, length, take};
@@ -227,8 +227,7 @@ fn has_room(size: usize, at: usize, links: usize) -> bool
 
 // Writes a line as `write_line` does, for a program in another language: the report by its kind, and the path as its
 // links alone. Where there is no room for the longest line or the path is too long it writes nothing and answers `at`.
-#[unsafe(no_mangle)]
-pub extern "C" fn gcr_write_line(
+pub fn gcr_write_line(
     out: &mut [u8],
     at: usize,
     place: u64,

@@ -1,6 +1,6 @@
 // The event table and the rows beside it, as their owner lends them: the row that holds in a minute, the count of events,
 // and one event, or the two of a span, put in with a copy of the row before. The free table and the desk call this; it
-// never looks at what a row holds.
+// never looks at what a row holds. `timeline_c` exports five of its functions to C.
 #![tactic(auto)]
 
 ghost use Rattle.std.specs.Prelude.{◌≡◌, [], ◌∷◌, ◌+◌, ◌≤◌, ◌<◌, length, take};
@@ -13,8 +13,7 @@ ghost use Rattle.timeline.specs.Insertion.{with_event, with_row, with_span, with
 use units::{Minute, ROW, clear_from, shift_up};
 
 // The row that holds in a minute: that of the last event at or before it, or the first one where there is none.
-#[unsafe(no_mangle)]
-pub extern "C" fn row_at(events: &[u32], minute: Minute) -> usize
+pub fn row_at(events: &[u32], minute: Minute) -> usize
     ensures { result ≡ row_at events.now minute.0 }
 {
     let mut next = 1;
@@ -32,8 +31,7 @@ pub extern "C" fn row_at(events: &[u32], minute: Minute) -> usize
 }
 
 // How many events the table holds: the clock, and those up to the first zero behind it.
-#[unsafe(no_mangle)]
-pub extern "C" fn count_events(events: &[u32]) -> usize
+pub fn count_events(events: &[u32]) -> usize
     ensures { result ≡ count_events events.now }
 {
     if events.len() == 0 {
@@ -50,8 +48,7 @@ pub extern "C" fn count_events(events: &[u32]) -> usize
 }
 
 // The event table of a desk without bookings: the clock alone.
-#[unsafe(no_mangle)]
-pub extern "C" fn reset_events(events: &mut [u32], clock: Minute)
+pub fn reset_events(events: &mut [u32], clock: Minute)
     requires { 0 < length events.old }
     ensures { events.new ≡ only_clock (length events.old) clock.0 }
 {
@@ -77,8 +74,7 @@ fn put_event(part: &mut [u32], minute: Minute)
 }
 
 // Puts an event in where it is later than the clock and missing, with a copy of the row before it.
-#[unsafe(no_mangle)]
-pub extern "C" fn insert_event(events: &mut [u32], rows: &mut [u32], minute: Minute)
+pub fn insert_event(events: &mut [u32], rows: &mut [u32], minute: Minute)
     requires { Room events.old rows.old 1 }
     ensures { (events.new ≡ with_event minute.0 events.old)
         × (rows.new ≡ with_row most_links events.old minute.0 rows.old) }
@@ -93,8 +89,7 @@ pub extern "C" fn insert_event(events: &mut [u32], rows: &mut [u32], minute: Min
 }
 
 // Puts the start and the end of a span in, each where it is later than the clock and missing.
-#[unsafe(no_mangle)]
-pub extern "C" fn insert_span(events: &mut [u32], rows: &mut [u32], start: Minute, end: Minute)
+pub fn insert_span(events: &mut [u32], rows: &mut [u32], start: Minute, end: Minute)
     requires { Room events.old rows.old 2 }
     ensures { (events.new ≡ with_span start.0 end.0 events.old)
         × (rows.new ≡ with_span_rows most_links events.old start.0 end.0 rows.old) }

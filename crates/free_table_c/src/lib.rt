@@ -1,0 +1,67 @@
+// The free table for C: the exported functions of `free_table` under their own names, each with the clauses that it has there.
+#![tactic(auto)]
+
+ghost use Rattle.std.specs.Prelude.{◌≡◌, ◌*◌, ◌≤◌, ◌<◌, length, take};
+ghost use Rattle.units.specs.Limits.{most_links};
+ghost use Rattle.timeline.specs.Events.{row_at};
+ghost use Rattle.free_table.specs.Figures.{kept, all_free, Capacities};
+ghost use Rattle.free_table.specs.Taking.{less_span, Sized};
+ghost use Rattle.free_table.specs.Looking.{enough_span};
+
+use units::{Bandwidth, LinkNumber, Minute};
+
+// The free table of a desk without bookings.
+#[unsafe(no_mangle)]
+pub extern "C" fn reset_free(free: &mut [u32], capacities: &[u32], links: usize)
+    requires { Capacities free.old capacities.now links }
+    ensures { free.new ≡ all_free (length free.old) links capacities.now }
+{
+    free_table::reset_free(free, capacities, links)
+}
+
+// The bandwidth that a link has free in a minute.
+#[unsafe(no_mangle)]
+pub extern "C" fn free_figure(
+    events: &[u32],
+    free: &[u32],
+    link: LinkNumber,
+    minute: Minute,
+) -> Bandwidth
+    requires { Sized events.now free.now link.0 }
+    ensures { result.0 ≡ kept events.now free.now link.0 minute.0 }
+{
+    free_table::free_figure(events, free, link, minute)
+}
+
+// Takes bandwidth from one link in minutes start to end - 1.
+#[unsafe(no_mangle)]
+pub extern "C" fn take_bandwidth(
+    events: &[u32],
+    free: &mut [u32],
+    start: Minute,
+    end: Minute,
+    link: LinkNumber,
+    bandwidth: Bandwidth,
+)
+    requires { Sized events.now free.old link.0 × (start.0 ≤ end.0) }
+    ensures { (free.new ≡ less_span events.now start.0 end.0 link.0 bandwidth.0 free.old)
+        × (take (row_at events.now start.0 * most_links) free.new ≡ take (row_at events.now start.0 * most_links) free.old) }
+{
+    free_table::take_bandwidth(events, free, start, end, link, bandwidth)
+}
+
+// Whether one link has the bandwidth free in every minute from start to end - 1.
+#[unsafe(no_mangle)]
+pub extern "C" fn has_bandwidth(
+    events: &[u32],
+    free: &[u32],
+    start: Minute,
+    end: Minute,
+    link: LinkNumber,
+    bandwidth: Bandwidth,
+) -> bool
+    requires { Sized events.now free.now link.0 × (start.0 < end.0) }
+    ensures { result ≡ enough_span events.now start.0 end.0 link.0 bandwidth.0 free.now }
+{
+    free_table::has_bandwidth(events, free, start, end, link, bandwidth)
+}
