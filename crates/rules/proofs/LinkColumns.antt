@@ -1,5 +1,5 @@
 -- The list that link columns stand for: as long as the count says, and below it each link is the one of the columns.
-use mathlib.Core.Path.{◌≡◌, sym, ap, ◌∙◌}
+use mathlib.Core.Path.{◌≡◌, ap, ◌∙◌}
 use mathlib.Core.List.{List, map}
 use Prim.Native.Nat.{ℕ, zero, suc, ◌+◌, ◌<◌}
 use native.Mathlib.Omega.{arith}
@@ -28,7 +28,7 @@ module _ (t : LinkTable) where
 
   -- the type says that there are 64 capacities
   pub capacities_long : {vs : List Val} → Is (row the_type) t vs → length t.capacity ≡ most_links
-  capacities_long g = sym (length-map t.capacity (λ x. x)) ∙ g.1.1.1.1.1.0.1.0.1
+  capacities_long g = g.1.1.1.1.1.0.1.0.1
 
   module _ (l : ℕ) (h : l < t.count) where
     pub link_column : link (links_of t) l ≡ link_at t l

@@ -13,7 +13,6 @@ use Rattle.units.proofs.Tests.{Tells, ◌&◌, at_most, all_tells, Rising, risin
 use Rattle.units.proofs.Permuted.{length_permuted, all_permuted, flatten_permuted, distinct_permuted}
 use Rattle.units.proofs.Parts.{all_map, all_of, all_at, rising_distinct}
 use Rattle.units.proofs.Padded.{length_padded, length_count, rows, length_rows}
-use Rattle.timeline.specs.Events.{events}
 use Rattle.timeline.proofs.Events.{later_permuted, later_length}
 use Rattle.timeline.proofs.Steady.{last_event_is, steady}
 use Rattle.free_table.specs.Figures.{table}

@@ -160,6 +160,12 @@ list_checked links p (cancel n) = refl
 list_checked links p (move_clock m) = refl
 list_checked links p (show l m) = refl
 
+-- a check that is passed, behind another, changes nothing
+passed_behind : (k l : ℕ) (t : Bool) (x : Answer) → checked refuse (check k t ∷ check l true ∷ []) x ≡ checked refuse (check k t ∷ []) x
+unfolding checked
+passed_behind k l true x = refl
+passed_behind k l false x = refl
+
 module _ (links : List Link) (p : Plain) (o : Obeys links p) where
   -- an answer of another form changes nothing
   again : tables links (held (tables links p)) ≡ tables links p
@@ -233,7 +239,7 @@ module _ (links : List Link) (p : Plain) (o : Obeys links p) where
     tables_pass : (c : Call) → checked refuse (table_checks links (tables links p) c) (answer_with links p c) ≡ answer_with links p c
     unfolding checked
     tables_pass (set_up_with s) = rw (tables_sized links p o count, (links_tell links).1 o.links_right)
-    tables_pass (ask a) = rw (tables_sized links p o count, tables_sound links p o) (list_checked links p a)
+    tables_pass (ask a) = rw (tables_sized links p o count, tables_sound links p o) (passed_behind refusals.bad_list refusals.unsound (list_fits a) (answer links p a) ∙ list_checked links p a)
 
     -- a call is answered from the links and the plain book
     pub answers_plain : (c : Call) → (outcome links (tables links p) c).answer ≡ answer_with links p c
