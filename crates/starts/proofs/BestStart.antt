@@ -1,6 +1,6 @@
 -- On fine tables the chooser may be asked, and what it answers is the plain book's best start; so are the ranges listed.
 use mathlib.Core.Path.{◌≡◌, sym, ◌∙◌, ap, ap₂}
-use Prim.Native.Nat.{ℕ, ◌-◌, ◌≤◌, ◌<◌}
+use Prim.Native.Nat.{ℕ, ◌≤◌, ◌<◌}
 use native.Mathlib.Omega.{arith}
 use lib.ListN.{length}
 use Rattle.units.specs.declared.Minute.{Minute}
@@ -8,7 +8,6 @@ use Rattle.units.specs.declared.Request.{Request}
 use Rattle.units.specs.Limits.{most_links, most_events}
 use Rattle.units.specs.Lists.{padded}
 use Rattle.units.specs.Spans.{low_of, span_of}
-use Rattle.units.proofs.Tests.{in_range}
 use Rattle.free_table.specs.Looking.{TablesSized}
 use Rattle.path_search.specs.declared.Path.{Path}
 use Rattle.path_search.specs.Answer.{InRange}
