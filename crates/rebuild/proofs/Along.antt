@@ -1,11 +1,11 @@
 -- Looking and taking along a path, one link further: what a loop over its links has done after each.
-use mathlib.Core.Path.{◌≡◌, sym, ◌∙◌}
+use mathlib.Core.Path.{◌≡◌}
 use mathlib.Core.List.{List, [], ◌∷◌}
 use mathlib.Core.Bool.{true, false}
 use Prim.Native.Nat.{ℕ, zero, suc, ◌+◌, ◌≤◌, ◌<◌}
 use native.Mathlib.Numerals.{add-one}
 use native.Mathlib.Omega.{arith}
-use lib.ListN.{length, get_or, take, drop, length-map, drop_of_length-le}
+use lib.ListN.{length, get_or, take, drop, drop_of_length-le}
 use lib.Seq.{drop-cons, get_or-take, length-take-le}
 use mir.Val.{Val}
 use denote.Laws.{Is}
@@ -28,7 +28,7 @@ all_place P d (x ∷ xs) (suc i) a h = all_place P d xs i a.1 (omega arith)
 
 -- the type says that a place has 31 of them
 pub path_long : (b : Place) {vs : List Val} → Is (row the_type) b vs → length b.links ≡ most_hops
-path_long b g = sym (length-map b.links (λ l. l)) ∙ g.1.1.1.1.1.1.1.0.1.0.1
+path_long b g = g.1.1.1.1.1.1.1.0.1.0.1
 
 module _ (links : List ℕ) (n i : ℕ) (inside : n ≤ length links) where
   links_left : i < n → drop i (take n links) ≡ get_or links i 0 ∷ drop (i + 1) (take n links)

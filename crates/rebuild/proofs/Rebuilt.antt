@@ -20,7 +20,7 @@ use Rattle.free_table.proofs.Tables.{all_free_table}
 use Rattle.book.specs.declared.Booking.{Booking as Place}
 use Rattle.book.specs.Places.{booking_in}
 use Rattle.units.specs.declared.LinkTable.{LinkTable}
-use Rattle.rules.specs.Plain.{Plain, with_book, until, capacity, free}
+use Rattle.rules.specs.Plain.{Plain, with_book, until, free}
 use Rattle.rules.specs.Calls.{put_in}
 use Rattle.rules.specs.Tables.{events_of, event_table, free_table, booking_of, booking_at, held_by}
 use Rattle.rules.specs.Sound.{BookingRight}

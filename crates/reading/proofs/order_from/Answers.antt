@@ -1,4 +1,5 @@
 -- `order_from` meets its contract: each arm is the definition's case.
+use native.Mathlib.Omega.{arith}
 use Rattle.layout.specs.Records.{order_from, clear}
 use Rattle.reading.proofs.Unknown.{unknown_kind}
 use Rattle.reading.proofs.order_from.Goals as goal
@@ -9,4 +10,4 @@ returns-in-1 c = rw (c.in-1.is, c.wish_of.ensures)
 
 pub returns-in_default : goal.returns-in_default
 unfolding order_from clear
-returns-in_default c = let r = c.in_default.in_default-own.rest in rw (unknown_kind c.args.f.kind r.0.0.0.1 r.0.0.1 r.0.1 r.1)
+returns-in_default c = rw (unknown_kind c.args.f.kind (omega arith) (omega arith) (omega arith) (omega arith))
