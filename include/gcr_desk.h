@@ -1,6 +1,6 @@
 /* The seven calls of the booking desk: setting up, booking, offering, listing, cancelling, moving the clock and showing.
  *
- * Link with libdesk.a, which `rt staticlib desk` writes to target/staticlib/.
+ * Link with libdesk.a, which `bash tools/build desk` writes to target/staticlib/.
  * A desk is a head and three tables, all of the caller, with the list of links that it was set up with. A list or table is
  * a pointer and its count of elements; another count than the stated one is refused. Every call is answered, and after a
  * refusal head, tables and lent list hold what they held. Each call says its refusals, which are tried in this order:

@@ -1,6 +1,6 @@
 /* The records of the booking desk: links and orders, read from bytes of any number and written into a lent piece of bytes.
  *
- * Link with librecord.a, which `rt staticlib record` writes to target/staticlib/. Refusals, the first that applies:
+ * Link with librecord.a, which `bash tools/build record` writes to target/staticlib/. Refusals, the first that applies:
  *   12  not exactly 16 bytes (8 for a link)
  *   11  an unknown kind, or a field that is filled and that the kind does not use (for a link that is read, a bit that is
  *       set where zero is due)

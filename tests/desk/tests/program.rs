@@ -21,7 +21,7 @@ fn written(input: &[u8]) -> Vec<u8> {
         .stdin(Stdio::piped())
         .stdout(Stdio::piped())
         .spawn()
-        .unwrap_or_else(|why| panic!("{}: {why}: run `rt check run_orders` first", program.display()));
+        .unwrap_or_else(|why| panic!("{}: {why}: run `bash tools/build run_orders` first", program.display()));
     let mut stdin = child.stdin.take().expect("standard input");
     let bytes = input.to_vec();
     // The program may stop reading early, on a desk that is refused.
