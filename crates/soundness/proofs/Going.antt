@@ -87,3 +87,8 @@ module _ (t : LinkTable) (l : ℕ) where
             → goes_on (graph (links_of t)) v met (l ∷ ls) ≡ goes_on (graph (links_of t)) (get_or t.to l 0) (get_or t.to l 0 ∷ met) ls
         unfolding goes_on
         going_on e = simp (known_test, begins_test, to_column t l known, e)
+
+-- the whole path goes on if the rest does
+abbrev pub Same : LinkTable → List ℕ → ℕ → List ℕ → ℕ → Type 0
+Same t path node seen i =
+    let g = graph (links_of t) in goes_on g (first_node g path) (first_node g path ∷ []) path ≡ goes_on g node seen (drop i path)
