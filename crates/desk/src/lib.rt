@@ -2,10 +2,9 @@
 // head lent and renewed where it stands, events, free figures and book as lent slices. Each call makes the list a table of
 // columns and hands it to its core in `desk_core`; nothing is decided here. Every call is answered for every input. `desk_c`
 // exports them.
-// `tools/walkgen.py desk` prints the proofs.
 #![tactic(auto)]
 
-ghost use Rattle.core.specs.Prelude.{slice_index_or};
+ghost use Rattle.std.specs.Prelude.{slice_index_or};
 ghost use Rattle.std.specs.Prelude.{◌≡◌, ◌<◌, length, get_or};
 ghost use Rattle.rules.specs.Plain.{no_link};
 ghost use Rattle.rules.specs.Calls.{Ask, set_up, ask};

@@ -1,5 +1,5 @@
 -- `link_table` meets its contract: each turn puts the next link at its place, and all places are filled at the end.
-use Rattle.std.proofs.Common.{◌≡◌, ◌+◌, ◌<◌, ◌≤◌, suc, length, sym, ap, ap₂, ◌∙◌, arith, add-one}
+use Rattle.std.proofs.Common.{◌≡◌, ◌<◌, length, sym, ap, ap₂, ◌∙◌, arith, add-one}
 use Rattle.units.specs.LinkTables.{at_most_64, with_link}
 use Rattle.desk.proofs.Laws.{Part, part_start, part_next, part_all, limit_top, limit_self}
 use Rattle.desk.proofs.link_table.Goals as goal
