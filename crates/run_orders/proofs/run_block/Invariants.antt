@@ -1,5 +1,5 @@
 -- `run_block` is safe and ends: each turn takes an order of the block, and the buffer always has room for a line.
-use Rattle.std.proofs.Common.{◌≡◌, ◌-◌, ◌≤◌, length}
+use Rattle.std.proofs.Common.{◌-◌, ◌≤◌, length}
 use Rattle.run_orders.proofs.run_block.Given as goal
 
 abbrev pub invariant-loop-at : goal.invariant-loop-at
