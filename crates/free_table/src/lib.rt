@@ -26,12 +26,7 @@ pub fn reset_free(free: &mut [u32], capacities: &[u32], links: usize)
 }
 
 // The bandwidth that a link has free in a minute.
-pub fn free_figure(
-    events: &[u32],
-    free: &[u32],
-    link: LinkNumber,
-    minute: Minute,
-) -> Bandwidth
+pub fn free_figure(events: &[u32], free: &[u32], link: LinkNumber, minute: Minute) -> Bandwidth
     requires { Sized events.now free.now link.0 }
     ensures { result.0 ≡ kept events.now free.now link.0 minute.0 }
 {
