@@ -62,20 +62,20 @@ module _ (columns : LinkTable) (few : columns.count ≤ most_links) (given : col
 -- ---- all anew
 
 -- sound tables, and the book table of the plain book after the call with its count
-module _ (columns : LinkTable) {t : Tables} (fine : Fine (links_of columns) t) {p : Plain} (o : Obeys (links_of columns) p) {head : Head} {book : List ℕ} (is-head : head ≡ head_of (links_of columns) p) (is-book : book ≡ book_table p) where
+module _ (columns : LinkTable) {t : Tables} (fine : Fine (links_of columns) t) {p : Plain} (o : Obeys (links_of columns) p) {head : Head} {book : List ℕ} (is_head : head ≡ head_of (links_of columns) p) (is_book : book ≡ book_table p) where
   -- what `rebuild` asks
   pub anew_asks : CanRebuild columns head book t.events t.free
   anew_asks =
       let right = sizes fine in
-      rw (is-head, is-book) (can_rebuild columns p o (rw links_count at right.links_right) t.events t.free right.events_right right.free_right)
+      rw (is_head, is_book) (can_rebuild columns p o (rw links_count at right.links_right) t.events t.free right.events_right right.free_right)
 
   -- and the tables with what it gives
   pub anew_tables : {es' t' : List ℕ} → es' ≡ event_table (held_by head book) → t' ≡ free_table (links_of columns) (held_by head book) → lent head es' t' book ≡ tables (links_of columns) p
   anew_tables a b =
-      tables_are (links_of columns) p is-head
-      (a ∙ ap₂ (λ h x. event_table (held_by h x)) is-head is-book ∙ events_anew columns p o)
-      (b ∙ ap₂ (λ h x. free_table (links_of columns) (held_by h x)) is-head is-book ∙ free_anew columns p o)
-      is-book
+      tables_are (links_of columns) p is_head
+      (a ∙ ap₂ (λ h x. event_table (held_by h x)) is_head is_book ∙ events_anew columns p o)
+      (b ∙ ap₂ (λ h x. free_table (links_of columns) (held_by h x)) is_head is_book ∙ free_anew columns p o)
+      is_book
 
 -- ---- one booking more
 

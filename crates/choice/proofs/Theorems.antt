@@ -196,9 +196,9 @@ module _ (g : Graph) (before after : ℕ → ℕ → ℕ) (more : NowhereLower b
       by (found m b f t q) (none_found h r) = clash (stays_possible m f.passes) (h m f.low (omega (arith, f.high)))
       by (found m b f t q) (found n d i u r) =
           let same : b ≡ c = cc in
-          let at-m = grant_starts m (route_at g carried_before source destination m) t in
+          let at_m = grant_starts m (route_at g carried_before source destination m) t in
           let at_n = grant_starts n (route_at g carried_after source destination n) u in
-          (d, r, elim (dec_lt m n) [ yes k ↦ clash (stays_possible m f.passes) (i.before m f.low k) | no k ↦ omega (arith, at-m, at_n, ap (λ (x : Grant). x.start) same) ])
+          (d, r, elim (dec_lt m n) [ yes k ↦ clash (stays_possible m f.passes) (i.before m f.low k) | no k ↦ omega (arith, at_m, at_n, ap (λ (x : Grant). x.start) same) ])
 
 -- What `choose` promises is right, by the figures that the lent tables keep.
 pub promise_right : (s : Search) (es t : List ℕ) (low latest : ℕ) → Askable s es t low latest → s.source ≢ s.destination → s.source ≤ last_node

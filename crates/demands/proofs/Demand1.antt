@@ -7,7 +7,7 @@ use native.Mathlib.Omega.{arith}
 use Rattle.units.specs.declared.Link.{Link}
 use Rattle.histories.specs.Kinds.{all_checks}
 use Rattle.histories.proofs.Checks.{Numbered, Verdict, lets, stops, verdict}
-use Rattle.histories.proofs.Demand1 as every-kind
+use Rattle.histories.proofs.Demand1 as every_kind
 use Rattle.rules.specs.Calls.{Ask, book, offer, list, cancel, move_clock, show, Call, set_up_with, ask, Answer, done, refuse, values, StartOr8, InForm}
 use Rattle.rules.specs.Tables.{Tables, held}
 use Rattle.rules.specs.Desk.{bandwidth_desk, outcome}
@@ -17,7 +17,7 @@ use Rattle.demands.proofs.Lawful.{lawful}
 use Rattle.rules.proofs.Checks.{done≢refuse, starts≢refuse, lists≢refuse, shows≢refuse, refuse_same}
 
 pub demand1 : Demand1 outcome
-demand1 = every-kind.demand1 bandwidth_desk lawful
+demand1 = every_kind.demand1 bandwidth_desk lawful
 
 -- ---- in its other words, of any desk
 

@@ -2,14 +2,14 @@
 use mathlib.Core.Path.{◌∙◌}
 use native.Mathlib.Omega.{arith}
 use Rattle.histories.specs.Demands as demands
-use Rattle.histories.proofs.Demand3 as every-kind
+use Rattle.histories.proofs.Demand3 as every_kind
 use Rattle.rules.specs.Desk.{bandwidth_desk, outcome}
 use Rattle.rules.proofs.Uses.{taken_at_end}
 use Rattle.demands.specs.Demands.{Desk, Demand3, LastRowFull}
 use Rattle.demands.proofs.Lawful.{lawful}
 
 pub demand3 : Demand3 outcome
-demand3 = every-kind.demand3 bandwidth_desk lawful
+demand3 = every_kind.demand3 bandwidth_desk lawful
 
 pub last_row_full : (desk : Desk) → Demand3 desk → LastRowFull desk
 last_row_full desk d links h l m on_List since over =

@@ -24,7 +24,7 @@ use Rattle.demands.specs.Examples.{start_at, session_links, Entry, Holds, reques
 use Rattle.rules.proofs.Checks.{passed_answer, passed_done}
 use Rattle.rules.proofs.Tests.{links_tell, RequestRight, request_right}
 use Rattle.rules.proofs.Choices.{best_right}
-use Rattle.histories.proofs.Replies as every-kind
+use Rattle.histories.proofs.Replies as every_kind
 use Rattle.demands.proofs.Replies.{replies, replies_after}
 
 -- an entry, of the plain book
@@ -33,19 +33,19 @@ Replies e = (f : ℕ) → e.least ≤ f → f ≤ e.most → replies (e.links f)
 
 -- the entries without a variable, by computation
 session_replies : Replies session
-unfolding every-kind.replies kinds.answer checked best select member sum earliest can_start reaches lowest fewest route first_from all_from any_below
+unfolding every_kind.replies kinds.answer checked best select member sum earliest can_start reaches lowest fewest route first_from all_from any_below
 session_replies f a b = refl
 
 before_low_replies : Replies before_low
-unfolding every-kind.replies kinds.answer checked best select member sum earliest can_start reaches lowest fewest route first_from all_from any_below
+unfolding every_kind.replies kinds.answer checked best select member sum earliest can_start reaches lowest fewest route first_from all_from any_below
 before_low_replies f a b = refl
 
 full_book_replies : Replies full_book
-unfolding fill every-kind.replies kinds.answer checked best select member sum earliest can_start reaches lowest fewest route first_from all_from any_below
+unfolding fill every_kind.replies kinds.answer checked best select member sum earliest can_start reaches lowest fewest route first_from all_from any_below
 full_book_replies f a b = refl
 
 same_ends_replies : Replies same_ends
-unfolding every-kind.replies kinds.answer checked
+unfolding every_kind.replies kinds.answer checked
 same_ends_replies f a b = rw (le-leb f 31 b, eq-eqb f f refl) refl
 
 -- a booking of the only link, where low is the only start
@@ -91,7 +91,7 @@ unfolding checked member
 first_passes c w a b = rw (le-leb 1 w a, le-leb w 1000000 b) refl
 
 free_figure_replies : Replies free_figure
-unfolding every-kind.replies sum
+unfolding every_kind.replies sum
 free_figure_replies f a b =
     rw (unfit_refused f 1 (suc f) 1 0 empty (only_right f a (omega arith)) (first_passes f (suc f) (omega arith) (omega arith)) (lit≤ tt) (λ h. let x = h 0 (lit≤ tt) (lit< tt) in omega arith))
     (rw (fits_booked f 1 f 1 0 empty (only_right f a (omega arith)) (first_passes f f a (omega arith)) (lit≤ tt) (λ k x y. omega arith)) refl)
@@ -114,7 +114,7 @@ unfolding sum member
 sold_in_1 f k x y = let e : k ≡ 1 = omega arith in rw e (omega arith)
 
 free_figure_left_replies : Replies free_figure_left
-unfolding every-kind.replies sum
+unfolding every_kind.replies sum
 free_figure_left_replies f a b =
     let million = only_right 1000000 (lit≤ tt) (lit≤ tt) in
     rw (fits_booked 1000000 2 (1000000 - f) 2 0 empty million (sale_passes (1000000 - f) (omega arith) (omega arith)) (lit≤ tt) (λ k x y. omega arith))

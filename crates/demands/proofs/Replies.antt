@@ -5,7 +5,7 @@ use mathlib.Core.Bool.{true}
 use Rattle.units.specs.declared.Link.{Link}
 use Rattle.units.specs.Lists.{All}
 use Rattle.histories.specs.Histories.{answers}
-use Rattle.histories.proofs.Replies as every-kind
+use Rattle.histories.proofs.Replies as every_kind
 use Rattle.rules.specs.Plain.{Plain, empty}
 use Rattle.rules.specs.Calls.{Ask, set_up, ask, Answer, done}
 use Rattle.rules.specs.Tables.{Tables, sized}
@@ -15,7 +15,7 @@ use Rattle.rules.proofs.Step.{set_up_accepted}
 use Rattle.demands.proofs.Lawful.{lawful}
 
 abbrev pub replies : List Link → Plain → List Ask → List Answer
-replies = every-kind.replies bandwidth_desk
+replies = every_kind.replies bandwidth_desk
 
 pub replies_after : (links : List Link) → All LinkRight links → (t : Tables) → sized links t ≡ true → (calls : List Ask) → answers outcome links t (set_up ∷ map ask calls) ≡ done ∷ replies links empty calls
-replies_after links right t size calls = every-kind.replies_after bandwidth_desk lawful links t tt (set_up_accepted links t size right) calls
+replies_after links right t size calls = every_kind.replies_after bandwidth_desk lawful links t tt (set_up_accepted links t size right) calls

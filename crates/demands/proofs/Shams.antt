@@ -132,7 +132,7 @@ unfolding tables count_from sum
 not_says_8 d = (d.offering session_links fresh first first_passes).no_start_iff.0 refl 0 (2 ∷ []) (lit≤ tt, lit≤ tt) ((lit< tt, refl, refl), ((λ k a b. lit≤ tt), tt))
 
 pub not_always_0 : ¬ Demand2 (desk_of always_0)
-not_always_0 d = let link-0-leads-to-2 : ◌≡◌ {A = ℕ} 1 2 = (((d.offering session_links fresh first first_passes).start_iff (record { start = 0; path = 0 ∷ [] })).0 refl).works.0.2 in omega arith
+not_always_0 d = let link_0_leads_to_2 : ◌≡◌ {A = ℕ} 1 2 = (((d.offering session_links fresh first first_passes).start_iff (record { start = 0; path = 0 ∷ [] })).0 refl).works.0.2 in omega arith
 
 set_up_done : (outcome session_links fresh set_up).answer ≡ done
 unfolding kinds.outcome kinds.answer_on checked all tables later flatten count_from bookings.by_number
@@ -146,16 +146,16 @@ pub not_writes_nothing : ¬ Demand3 (desk_of writes_nothing)
 unfolding now plain left counted kinds.outcome kinds.answer_on kinds.answer checked best member sum earliest can_start route fewest lowest reaches first_from all_from any_below row_at passed sound sound_with tables later insert_rising flatten count_from bookings.by_number bookings.insert_by_number goes_on rising all equal
 not_writes_nothing d =
     let s = (d.counts session_links (after writes_nothing (ask (book 7 first) ∷ []))).as_kept 2 0 (lit< tt) (lit≤ tt) in
-    let kept-4 : ◌≡◌ {A = ℕ} 4 s.0 = s.1 in
-    let taken-4-of-4 : s.0 + 4 ≡ 4 = s.2 in
+    let kept_4 : ◌≡◌ {A = ℕ} 4 s.0 = s.1 in
+    let taken_4_of_4 : s.0 + 4 ≡ 4 = s.2 in
     omega arith
 
 pub not_first_only : ¬ Demand3 (desk_of first_only)
 unfolding now plain left counted kinds.outcome kinds.answer_on kinds.answer checked best member sum earliest can_start route fewest lowest reaches first_from all_from any_below row_at passed sound sound_with tables later insert_rising flatten count_from bookings.by_number bookings.insert_by_number goes_on rising all equal
 not_first_only d =
     let s = (d.counts session_links (after first_only (ask (book 7 first) ∷ ask (book 9 second) ∷ []))).as_kept 0 0 (lit< tt) (lit≤ tt) in
-    let kept-10 : ◌≡◌ {A = ℕ} 10 s.0 = s.1 in
-    let taken-6-of-10 : s.0 + 6 ≡ 10 = s.2 in
+    let kept_10 : ◌≡◌ {A = ℕ} 10 s.0 = s.1 in
+    let taken_6_of_10 : s.0 + 6 ≡ 10 = s.2 in
     omega arith
 
 pub not_makes_up : ¬ Demand3 (desk_of makes_up)

@@ -17,7 +17,7 @@ use Rattle.choice.specs.Choice.{Grant, Choice, granted, no_start}
 use Rattle.choice.specs.Answer as answers
 use Rattle.units.specs.declared.LinkTable.{LinkTable}
 use Rattle.rules.specs.Plain.{Booking, terms}
-use Rattle.rules.specs.Calls.{Ask, best, stands, number_ok, request_ok, own_checks, chosen as desk-chosen}
+use Rattle.rules.specs.Calls.{Ask, best, stands, number_ok, request_ok, own_checks, chosen as desk_chosen}
 use Rattle.rules.specs.Tables.{Tables, held, Fine}
 use Rattle.units.specs.LinkTables.{links_of}
 use Rattle.starts.proofs.BestStart.{by_tables, same_choice, Started}
@@ -33,9 +33,9 @@ module _ (links : LinkTable) (t : Tables) (f : Fine (links_of links) t) (r : Req
   -- the record of the choice
   pub told : (a : Chosen) → a ≡ answers.chosen (by_tables links t f r q) → answers.values a ≡ words.choice_shown (best (links_of links) (held t) r)
   unfolding best
-  told a e = ap (λ x. answers.values x) e ∙ by (by_tables links t f r q) ∙ ap (λ c. words.choice_shown (desk-chosen c)) (same_choice links t f r q)
+  told a e = ap (λ x. answers.values x) e ∙ by (by_tables links t f r q) ∙ ap (λ c. words.choice_shown (desk_chosen c)) (same_choice links t f r q)
     where
-      by : (c : Choice Grant) → answers.values (answers.chosen c) ≡ words.choice_shown (desk-chosen c)
+      by : (c : Choice Grant) → answers.values (answers.chosen c) ≡ words.choice_shown (desk_chosen c)
       by (granted g) = refl
       by no_start = refl
 

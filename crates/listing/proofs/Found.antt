@@ -144,7 +144,7 @@ pub record Listed (test : ℕ → Bool) (latest from_start : ℕ) (list : List �
   pub written : take (count * 2) list ≡ figures before
   pub found_to : FoundTo test from_start (suc latest) before start
 
-module _ (g : Graph) (carries : ℕ → ℕ → Bool) (from to low latest first : ℕ) (is-first : first ≡ start_or (suc latest) (choose g carries from to low latest)) where
+module _ (g : Graph) (carries : ℕ → ℕ → Bool) (from to low latest first : ℕ) (is_first : first ≡ start_or (suc latest) (choose g carries from to low latest)) where
   abbrev test : ℕ → Bool
   test = possible g carries from to
 
@@ -157,9 +157,9 @@ module _ (g : Graph) (carries : ℕ → ℕ → Bool) (from to low latest first 
     where
       by : ChoiceFound (try_at g carries from to) low latest → (first ≤ suc latest) × (first ≤ latest → (low ≤ first) × (test first ≡ true))
       by (found m c f t p) =
-          let same : first ≡ m = is-first ∙ ap (start_or (suc latest)) p ∙ grant_starts m (route_at g carries from to m) t in
+          let same : first ≡ m = is_first ∙ ap (start_or (suc latest)) p ∙ grant_starts m (route_at g carries from to m) t in
           (omega (arith, f.low, f.high), λ h. (omega (arith, f.low), rw same f.passes))
-      by (none_found f p) = let same : first ≡ suc latest = is-first ∙ ap (start_or (suc latest)) p in (omega arith, λ h. absurd (omega arith))
+      by (none_found f p) = let same : first ≡ suc latest = is_first ∙ ap (start_or (suc latest)) p in (omega arith, λ h. absurd (omega arith))
 
   pub listed_first : (list : List ℕ) → length list ≡ list_size → ListedTo list 0 first
   unfolding figures
@@ -217,7 +217,7 @@ module _ (g : Graph) (carries : ℕ → ℕ → Bool) (from to low latest first 
           asked : ¬ (suc latest < low) → l.before ≡ ranges g carries from to low latest
           asked h =
               let meets : low + (suc latest - low) ≡ suc latest = omega arith in
-              let n = next_start g carries from to low latest first (omega arith) is-first in
+              let n = next_start g carries from to low latest first (omega arith) is_first in
               are_only test low (suc latest) l.before (ranges g carries from to low latest) (fails_first test low first (suc latest) n.not_before n.fails_before l.before are)
               (subst (λ x. AreRanges test low x (ranges g carries from to low latest)) meets (ranges_are g carries from to low latest))
 

@@ -42,39 +42,39 @@ first_read number read i (suc n) = by (passes? (eqb (read i) number)) (first_rea
     by (inr e) ih = first_after test i n e ∙ ih ∙ sym (ap (λ t. found_if t i behind) e)
 
 -- where a number stands in a list: behind those of other numbers, or nowhere
-pub data Place {A : Type 0} (number_of_lem : A → ℕ) (number : ℕ) (xs : List A) : Standing → Type 0 where
-  there : (before : List A) (x : A) (behind : List A) → xs ≡ before ++ (x ∷ behind) → number_of_lem x ≡ number → member number (map number_of_lem before) ≡ false → Place number_of_lem number xs (At (length before))
-  missing : member number (map number_of_lem xs) ≡ false → Place number_of_lem number xs Nowhere
+pub data Place {A : Type 0} (number_of : A → ℕ) (number : ℕ) (xs : List A) : Standing → Type 0 where
+  there : (before : List A) (x : A) (behind : List A) → xs ≡ before ++ (x ∷ behind) → number_of x ≡ number → member number (map number_of before) ≡ false → Place number_of number xs (At (length before))
+  missing : member number (map number_of xs) ≡ false → Place number_of number xs Nowhere
 
-module _ {A : Type 0} (number_of_lem : A → ℕ) (number : ℕ) where
+module _ {A : Type 0} (number_of : A → ℕ) (number : ℕ) where
   -- the same of what a search finds that counts from i
   pub data Search (i : ℕ) (xs : List A) : Found → Type 0 where
-    hit : (before : List A) (x : A) (behind : List A) (k : ℕ) → k ≡ i + length before → xs ≡ before ++ (x ∷ behind) → number_of_lem x ≡ number → member number (map number_of_lem before) ≡ false → Search i xs (at k)
-    miss : member number (map number_of_lem xs) ≡ false → Search i xs nothing
+    hit : (before : List A) (x : A) (behind : List A) (k : ℕ) → k ≡ i + length before → xs ≡ before ++ (x ∷ behind) → number_of x ≡ number → member number (map number_of before) ≡ false → Search i xs (at k)
+    miss : member number (map number_of xs) ≡ false → Search i xs nothing
 
-  passed : (x : A) (xs : List A) → eqb (number_of_lem x) number ≡ false → member number (map number_of_lem xs) ≡ false → member number (map number_of_lem (x ∷ xs)) ≡ false
+  passed : (x : A) (xs : List A) → eqb (number_of x) number ≡ false → member number (map number_of xs) ≡ false → member number (map number_of (x ∷ xs)) ≡ false
   unfolding member
-  passed x xs e m = ap₂ ◌||◌ (ne_eqb number (number_of_lem x) (λ q. eqb-false (number_of_lem x) number e (sym q))) m
+  passed x xs e m = ap₂ ◌||◌ (ne_eqb number (number_of x) (λ q. eqb-false (number_of x) number e (sym q))) m
 
   none : member number [] ≡ false
   unfolding member
   none = refl
 
-  pub searched : (i : ℕ) (xs : List A) → Search i xs (first_in number i (map number_of_lem xs))
+  pub searched : (i : ℕ) (xs : List A) → Search i xs (first_in number i (map number_of xs))
   unfolding first_in
   searched i [] = miss none
-  searched i (x ∷ xs) = by (eqb (number_of_lem x) number) refl (searched (suc i) xs)
+  searched i (x ∷ xs) = by (eqb (number_of x) number) refl (searched (suc i) xs)
     where
-      further : {f : Found} → eqb (number_of_lem x) number ≡ false → Search (suc i) xs f → Search i (x ∷ xs) f
+      further : {f : Found} → eqb (number_of x) number ≡ false → Search (suc i) xs f → Search i (x ∷ xs) f
       further e (hit before y behind k n s q m) = hit (x ∷ before) y behind k (omega arith) (ap (λ (l : List A). x ∷ l) s) q (passed x before e m)
       further e (miss m) = miss (passed x xs e m)
 
-      by : (t : Bool) → eqb (number_of_lem x) number ≡ t → {f : Found} → Search (suc i) xs f → Search i (x ∷ xs) (found_if t i f)
-      by true e s = hit [] x xs i (omega arith) refl (eqb-true (number_of_lem x) number e) none
+      by : (t : Bool) → eqb (number_of x) number ≡ t → {f : Found} → Search (suc i) xs f → Search i (x ∷ xs) (found_if t i f)
+      by true e s = hit [] x xs i (omega arith) refl (eqb-true (number_of x) number e) none
       by false e s = further e s
 
-  pub place_of : {xs : List A} {f : Found} → Search 0 xs f → Place number_of_lem number xs (standing f)
+  pub place_of : {xs : List A} {f : Found} → Search 0 xs f → Place number_of number xs (standing f)
   place_of {xs} (hit before x behind k n s q m) =
       let e : length before ≡ k = omega arith in
-      subst (λ i. Place number_of_lem number xs (At i)) e (there before x behind s q m)
+      subst (λ i. Place number_of number xs (At i)) e (there before x behind s q m)
   place_of (miss m) = missing m

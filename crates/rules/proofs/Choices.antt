@@ -17,7 +17,7 @@ use Rattle.path_search.specs.Paths.{PathRight}
 use Rattle.path_search.proofs.Chains.{Way}
 use Rattle.path_search.proofs.Paths.{chain_leads, route_path}
 use Rattle.choice.specs.Choice.{Grant, Choice, granted, no_start, choose}
-use Rattle.choice.specs.Carrying.{carries as carries-by}
+use Rattle.choice.specs.Carrying.{carries as carries_by}
 use Rattle.choice.proofs.Choice.{IsGrant, NoGrant, granted_iff, no_start_iff}
 use Rattle.rules.specs.Plain.{Plain, span, terms, graph, free_for, carries, low}
 use Rattle.rules.specs.Calls.{Answer, starts, refuse, chosen, best}
@@ -37,7 +37,7 @@ chosen_granted no_start g e = starts≢refuse (sym e)
 
 -- the choice by any figures, span and low
 abbrev pub choice_by : List Link → Request → (ℕ → ℕ → ℕ) → ℕ → ℕ → Choice Grant
-choice_by links r figure duration first = choose (graph links) (carries-by figure r.bandwidth.0 duration) r.from r.to first r.latest.0
+choice_by links r figure duration first = choose (graph links) (carries_by figure r.bandwidth.0 duration) r.from r.to first r.latest.0
 
 module _ (links : List Link) (p : Plain) (r : Request) where
   abbrev pub Granted : Grant → Type 0

@@ -18,7 +18,7 @@ use Rattle.units.proofs.Tests.{member_tells, absent, in_range}
 use Rattle.units.proofs.Permuted.{length_permuted, member_permuted, select_permuted}
 use Rattle.units.proofs.Parts.{select_part, length_part, map_part, distinct_part, all_map, all_at, all_selected}
 use Rattle.choice.specs.Choice.{Grant}
-use Rattle.choice.specs.Carrying.{carries as carries-by}
+use Rattle.choice.specs.Carrying.{carries as carries_by}
 use Rattle.listing.specs.Ranges.{ranges}
 use Rattle.histories.specs.Kinds as kinds
 use Rattle.rules.specs.Plain.{Booking, Plain, empty, span, terms, until, uses, taken, capacity, graph, free, low, with_book}
@@ -126,7 +126,7 @@ module _ (links : List Link) (p : Plain) {bs cs : List Booking} (q : Permᴰ bs 
 
   every_permuted : (r : Request) → every links (with_book p bs) r ≡ every links (with_book p cs) r
   unfolding every
-  every_permuted r = ap (λ (f : ℕ → ℕ → ℕ). ranges (graph links) (carries-by f r.bandwidth.0 (span p (terms r))) r.from r.to (low p r) r.latest.0) (free_permuted links p q)
+  every_permuted r = ap (λ (f : ℕ → ℕ → ℕ). ranges (graph links) (carries_by f r.bandwidth.0 (span p (terms r))) r.from r.to (low p r) r.latest.0) (free_permuted links p q)
 
   pub answer_permuted : (a : Ask) → answer links (with_book p bs) a ≡ answer links (with_book p cs) a
   unfolding kinds.answer

@@ -24,7 +24,7 @@ use Rattle.listing.specs.Ranges.{ranges_for}
 use Rattle.listing.proofs.Laws.{ranges_agree}
 use Rattle.units.specs.declared.LinkTable.{LinkTable}
 use Rattle.rules.specs.Plain.{graph, free, carries, low}
-use Rattle.rules.specs.Calls.{starts, refuse, best, every, chosen as desk-chosen}
+use Rattle.rules.specs.Calls.{starts, refuse, best, every, chosen as desk_chosen}
 use Rattle.rules.specs.Tables.{Tables, events_of, held, Fine}
 use Rattle.units.specs.LinkTables.{links_of}
 use Rattle.starts.specs.Asked.{ends_of, search_of}
@@ -111,8 +111,8 @@ module _ (links : LinkTable) (t : Tables) (f : Fine (links_of links) t) where
     -- what the plain book answers then
     pub best_starts : (g : Grant) → by_book ≡ granted g → best (links_of links) (held t) r ≡ starts g
     unfolding best
-    best_starts g e = ap desk-chosen e
+    best_starts g e = ap desk_chosen e
 
     pub best_none : by_book ≡ no_start → best (links_of links) (held t) r ≡ refuse 8
     unfolding best
-    best_none e = ap desk-chosen e
+    best_none e = ap desk_chosen e

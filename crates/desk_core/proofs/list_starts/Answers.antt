@@ -28,10 +28,10 @@ pub returns-then-refusal-ne0-2 : goal.returns-then-refusal-ne0-2
 returns-then-refusal-ne0-2 c = let a = c.args in
     let l = links_of a.links in
     let t = lent a.head a.events.now a.free.now a.book.now in
-    let right-size = eqb (length a.list.now) list_size in
-    let passed : lent_refusal l t right-size ≡ 0 = sym c.listing_refusal-refusal.ensures ∙ c.if-refusal-ne0.false in
-    let f = fine l t right-size passed in
-    let fits = list_fine l t right-size passed in
+    let right_size = eqb (length a.list.now) list_size in
+    let passed : lent_refusal l t right_size ≡ 0 = sym c.listing_refusal-refusal.ensures ∙ c.if-refusal-ne0.false in
+    let f = fine l t right_size passed in
+    let fits = list_fine l t right_size passed in
     handed_listing l t (ask (Ask.list (length a.list.now) a.request)) (refused_with _ t)
     (stopped l t (Ask.list (length a.list.now) a.request) f.is_sized fits f.is_sound _ (listed_as_offer l (held t) (length a.list.now) a.request fits ∙ sym c.offer_refusal-refusal.ensures) c.if-refusal-ne0-2.true) a.list.now c.not_listed-then-refusal-ne0-2.ensures refl
 
@@ -39,10 +39,10 @@ pub all_starts-requires : goal.all_starts-requires
 all_starts-requires c = let a = c.args in
     let l = links_of a.links in
     let t = lent a.head a.events.now a.free.now a.book.now in
-    let right-size = eqb (length a.list.now) list_size in
-    let passed : lent_refusal l t right-size ≡ 0 = sym c.listing_refusal-refusal.ensures ∙ c.if-refusal-ne0.false in
-    let f = fine l t right-size passed in
-    let fits = list_fine l t right-size passed in
+    let right_size = eqb (length a.list.now) list_size in
+    let passed : lent_refusal l t right_size ≡ 0 = sym c.listing_refusal-refusal.ensures ∙ c.if-refusal-ne0.false in
+    let f = fine l t right_size passed in
+    let fits = list_fine l t right_size passed in
     let passes : first_refusal (own_checks l (held t) (Ask.list (length a.list.now) a.request)) ≡ 0 = listed_as_offer l (held t) (length a.list.now) a.request fits ∙ sym c.offer_refusal-refusal.ensures ∙ c.if-refusal-ne0-2.false in
     record { askable = best_asks a.links t f a.request (request_right a.request (all_passed l t (Ask.list (length a.list.now) a.request) f.is_sized fits f.is_sound passes).1.0); events_fit = omega (arith, (sizes f).events_right); list_sized = eqb-true (length a.list.now) list_size fits }
 
@@ -50,10 +50,10 @@ pub returns : goal.returns
 returns c = let a = c.args in
     let l = links_of a.links in
     let t = lent a.head a.events.now a.free.now a.book.now in
-    let right-size = eqb (length a.list.now) list_size in
-    let passed : lent_refusal l t right-size ≡ 0 = sym c.listing_refusal-refusal.ensures ∙ c.if-refusal-ne0.false in
-    let f = fine l t right-size passed in
-    let fits = list_fine l t right-size passed in
+    let right_size = eqb (length a.list.now) list_size in
+    let passed : lent_refusal l t right_size ≡ 0 = sym c.listing_refusal-refusal.ensures ∙ c.if-refusal-ne0.false in
+    let f = fine l t right_size passed in
+    let fits = list_fine l t right_size passed in
     let passes : first_refusal (own_checks l (held t) (Ask.list (length a.list.now) a.request)) ≡ 0 = listed_as_offer l (held t) (length a.list.now) a.request fits ∙ sym c.offer_refusal-refusal.ensures ∙ c.if-refusal-ne0-2.false in
     let same = same_ranges a.links t f a.request (request_right a.request (all_passed l t (Ask.list (length a.list.now) a.request) f.is_sized fits f.is_sound passes).1.0) in
     let written = c.all_starts.ensures in

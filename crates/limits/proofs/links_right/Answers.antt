@@ -28,24 +28,24 @@ pub returns-then-not-ends_ok : goal.returns-then-not-ends_ok
 returns-then-not-ends_ok c =
     let l = c.loop-link in
     let t = c.args.links in
-    let bad-ends = sym c.ends_ok.ensures ∙ c.if-not-ends_ok.true in
-    sym (l.invariant.1 ∙ link_here t l.link t.count (omega arith) ∙ simp bad-ends)
+    let bad_ends = sym c.ends_ok.ensures ∙ c.if-not-ends_ok.true in
+    sym (l.invariant.1 ∙ link_here t l.link t.count (omega arith) ∙ simp bad_ends)
 
 pub returns-then-not-in_range : goal.returns-then-not-in_range
 returns-then-not-in_range c =
     let l = c.loop-link in
     let t = c.args.links in
-    let good-ends = sym c.ends_ok.ensures ∙ c.if-not-ends_ok.false in
-    let bad-capacity = sym c.in_range.ensures ∙ c.if-not-in_range.true in
-    sym (l.invariant.1 ∙ link_here t l.link t.count (omega arith) ∙ simp (good-ends, bad-capacity))
+    let good_ends = sym c.ends_ok.ensures ∙ c.if-not-ends_ok.false in
+    let bad_capacity = sym c.in_range.ensures ∙ c.if-not-in_range.true in
+    sym (l.invariant.1 ∙ link_here t l.link t.count (omega arith) ∙ simp (good_ends, bad_capacity))
 
 pub loop-link-preserved : goal.loop-link-preserved
 loop-link-preserved c =
     let l = c.loop-link in
     let t = c.args.links in
-    let good-ends = sym c.ends_ok.ensures ∙ c.if-not-ends_ok.false in
-    let good-capacity = sym c.in_range.ensures ∙ c.if-not-in_range.false in
-    (omega arith, l.invariant.1 ∙ link_here t l.link t.count (omega arith) ∙ simp (good-ends, good-capacity))
+    let good_ends = sym c.ends_ok.ensures ∙ c.if-not-ends_ok.false in
+    let good_capacity = sym c.in_range.ensures ∙ c.if-not-in_range.false in
+    (omega arith, l.invariant.1 ∙ link_here t l.link t.count (omega arith) ∙ simp (good_ends, good_capacity))
 
 pub returns : goal.returns
 returns c = let t = c.args.links in sym (c.loop-link.invariant.1 ∙ links_past t c.loop-link.link t.count (omega arith))

@@ -29,11 +29,11 @@ links_right-requires c =
 pub returns-then-not-links_right : goal.returns-then-not-links_right
 unfolding checked
 returns-then-not-links_right c =
-    let right-sizes = sizes c.args.links c.args.head c.args.events.now c.args.free.now c.args.book.now (sym c.sized.ensures ∙ c.if-not-sized.false) in
-    simp (right-sizes, sym c.links_right.ensures ∙ c.if-not-links_right.true)
+    let right_sizes = sizes c.args.links c.args.head c.args.events.now c.args.free.now c.args.book.now (sym c.sized.ensures ∙ c.if-not-sized.false) in
+    simp (right_sizes, sym c.links_right.ensures ∙ c.if-not-links_right.true)
 
 pub returns : goal.returns
 unfolding checked
 returns c =
-    let right-sizes = sizes c.args.links c.args.head c.args.events.now c.args.free.now c.args.book.now (sym c.sized.ensures ∙ c.if-not-sized.false) in
-    simp (right-sizes, sym c.links_right.ensures ∙ c.if-not-links_right.false)
+    let right_sizes = sizes c.args.links c.args.head c.args.events.now c.args.free.now c.args.book.now (sym c.sized.ensures ∙ c.if-not-sized.false) in
+    simp (right_sizes, sym c.links_right.ensures ∙ c.if-not-links_right.false)

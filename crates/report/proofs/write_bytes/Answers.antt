@@ -18,9 +18,9 @@ loop-i-preserved c =
     let bytes = a.bytes.now in
     let v = get_or bytes l.i 0 in
     let turn : l.i < length bytes = omega arith in
-    let in-out : a.at + l.i < length l.out = omega arith in
+    let in_out : a.at + l.i < length l.out = omega arith in
     let room : a.at + length (take (l.i + 1) bytes) ≤ length a.out.now = rw (length-take-le (l.i + 1) bytes (omega arith)) (omega arith) in
-    let w = joined _ (one_more bytes l.i turn) room l.invariant.2 (one l.out (a.at + l.i) v in-out) in
+    let w = joined _ (one_more bytes l.i turn) room l.invariant.2 (one l.out (a.at + l.i) v in_out) in
     (omega arith, simp length-set l.invariant.1, rw (← add_assoc) w)
 
 pub shape_of-out : goal.shape_of-out

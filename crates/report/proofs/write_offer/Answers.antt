@@ -18,18 +18,18 @@ pub write_bytes-next-requires : goal.write_bytes-next-requires
 write_bytes-next-requires c =
     let a = c.args in
     let d = c.write_decimal-word in
-    let route-here = route a.start a.links.now in
-    room_first _ (ascii " offer") route-here refl
-    (room_second (ascii " offer" ++ route-here) (offered_parts a.place a.start a.links.now) c.requires d.ensures d.auto.out)
+    let route_here = route a.start a.links.now in
+    room_first _ (ascii " offer") route_here refl
+    (room_second (ascii " offer" ++ route_here) (offered_parts a.place a.start a.links.now) c.requires d.ensures d.auto.out)
 
 pub write_route-requires : goal.write_route-requires
 write_route-requires c =
     let a = c.args in
     let d = c.write_decimal-word in
     let w = c.write_bytes-next in
-    let route-here = route a.start a.links.now in
-    room_second route-here refl
-    (room_second (ascii " offer" ++ route-here) (offered_parts a.place a.start a.links.now) c.requires d.ensures d.auto.out) w.ensures w.auto.out
+    let route_here = route a.start a.links.now in
+    room_second route_here refl
+    (room_second (ascii " offer" ++ route_here) (offered_parts a.place a.start a.links.now) c.requires d.ensures d.auto.out) w.ensures w.auto.out
 
 pub returns : goal.returns
 returns c =
