@@ -216,7 +216,7 @@ pub fn run_order(
     place: u64,
 ) -> Line
     requires { at + max_line ≤ length out.old }
-    ensures fact { let o = ordered (links_of links) (lent head events.old free.old book.old) bytes.now in
+    ensures answered { let o = ordered (links_of links) (lent head events.old free.old book.old) bytes.now in
         Wrote (line_of place o) out.old at out.new result.next × (lent result.head events.new free.new book.new ≡ o.tables) }
     ensures next_bound { result.next ≤ at + max_line }
 {

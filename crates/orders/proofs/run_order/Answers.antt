@@ -21,4 +21,4 @@ pub returns : goal.returns
 returns c = let a = c.args in
     let e = c.answer_order-answer.ensures in
     let w = c.write_line-next in
-    record { fact = (subst (λ (told : Told). Wrote (line a.place told.report (take told.path.count told.path.links)) a.out.now a.at w.new.out w.result) e.0 w.ensures.wrote, e.1); next_bound = w.ensures.upper_bound }
+    record { answered = (subst (λ (told : Told). Wrote (line a.place told.report (take told.path.count told.path.links)) a.out.now a.at w.new.out w.result) e.0 w.ensures.wrote, e.1); next_bound = w.ensures.upper_bound }
