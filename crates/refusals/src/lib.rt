@@ -80,6 +80,7 @@ pub fn clock_refusal(head: Head, minute: Minute) -> u32
 }
 
 // The number of the first check of its own that a showing does not pass, or 0.
+#[tactic(auto, using(rules::proofs::LinkColumns::links_count), unfolding(rules::specs::Calls::checked))]
 pub fn show_refusal(head: Head, links: LinkTable, link: LinkNumber, minute: Minute) -> u32
     ensures { result ≡ first_refusal (own_checks (links_of links) (held_by head []) (Ask.show link.0 minute.0)) }
 {

@@ -31,6 +31,7 @@ pub fn row_at(events: &[u32], minute: Minute) -> usize
 }
 
 // How many events the table holds: the clock, and those up to the first zero behind it.
+#[tactic(auto, using(crate::proofs::Counts::filled_zero, crate::proofs::Counts::filled_next))]
 pub fn count_events(events: &[u32]) -> usize
     ensures { result ≡ count_events events.now }
 {

@@ -111,6 +111,7 @@ fn is_order(read: OrderRead) -> bool
 
 // The refusal of a form for a piece of so many bytes: 12 for a wrong number of them, 11 for a form that the reader would
 // not take for an order, 4 for one that does not fit; else 0.
+#[tactic(auto, unfolding(layout::specs::Forms::order_refusal))]
 fn order_refusal(count: usize, form: OrderForm) -> u32
     ensures { result ≡ order_refusal count form }
 {
@@ -128,6 +129,7 @@ fn order_refusal(count: usize, form: OrderForm) -> u32
 
 // The refusal of a link for a piece of so many bytes: 12 for a wrong number of them, 4 for a figure that is too large;
 // else 0.
+#[tactic(auto, unfolding(layout::specs::Forms::link_refusal))]
 fn link_refusal(count: usize, link: Link) -> u32
     ensures { result ≡ link_refusal count link }
 {

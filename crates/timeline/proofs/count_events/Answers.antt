@@ -1,7 +1,7 @@
 -- `count_events` meets its contract. The first `count` places hold events, and those left to count stand behind them.
 use mathlib.Core.Path.{sym}
 use native.Mathlib.Omega.{arith}
-use Rattle.timeline.proofs.Counts.{count_none, count_first, filled_zero, filled_next, filled_past}
+use Rattle.timeline.proofs.Counts.{count_none, count_first, filled_past}
 use Rattle.timeline.proofs.count_events.Goals as goal
 
 pub returns-then-events-eq0 : goal.returns-then-events-eq0
@@ -9,18 +9,6 @@ returns-then-events-eq0 c = sym (count_none c.args.events.now (omega arith))
 
 pub loop-count-init : goal.loop-count-init
 loop-count-init c = (omega arith, count_first c.args.events.now c.if-events-eq0.false)
-
-pub returns-then-events-count-eq0 : goal.returns-then-events-count-eq0
-returns-then-events-count-eq0 c =
-    let l = c.loop-count in
-    let a = c.args in
-    omega (arith, filled_zero a.events.now l.count (omega arith) c.if-events-count-eq0.true)
-
-pub loop-count-preserved : goal.loop-count-preserved
-loop-count-preserved c =
-    let l = c.loop-count in
-    let a = c.args in
-    (omega arith, omega (arith, filled_next a.events.now l.count (omega arith) c.if-events-count-eq0.false))
 
 pub returns : goal.returns
 returns c =
