@@ -13,12 +13,8 @@ STOP = r"\s(){}\[\],;.:\"λ→←↦⌜⌝|⟨⟩@`"
 TOKEN = re.compile(rf"[^{STOP}]+")
 WORDS = r"(?:pub|abbrev|unfoldable|data|record|field)"
 DECLARED = re.compile(rf"^\s*(?:{WORDS}\s+)*([^\s:(){{}}]+)\s+(?:.*\s)?:(?:\s|$)")
-FIELDS = re.compile(rf"\(([^():]+)\s:\s")
 # Names that a check makes, not the repository.
 MADE = re.compile(r"^(Need-|After-|invariant-|decreases-|returns-\d|the-[A-Z])")
-# Names that stand under the same spelling in the library and are brought in from there.
-LIBRARY = set("""add-suc add-one length-set length-map length-take length-drop length-append map-append take-append drop-append
-set-cons cons-cons not-nil take-drop drop-drop map-id fields-of""".split())
 
 
 def files(*endings):
@@ -34,26 +30,22 @@ def read(path):
         return f.read()
 
 
-def bare(path, text):
+def bare(text):
     """The text without comments."""
     return re.sub(r"(?m)(^|\s)(--|//).*$", r"\1", text)
 
 
 def snake(name):
-    if "-" not in name and not re.match(r"^[a-z]+[A-Z]", name):
-        return name
-    name = name.replace("-", "_")
-    # a hump between small letters, where the name is no type
-    if name[0].islower():
-        name = re.sub(r"(?<=[a-z])([A-Z])(?=[a-z])", lambda m: "_" + m.group(1).lower(), name) if re.match(r"^[a-z]+[A-Z]", name) else name
-    return name
+    if re.match(r"^[a-z]+[A-Z]", name):
+        name = re.sub(r"(?<=[a-z])([A-Z])(?=[a-z])", lambda m: "_" + m.group(1).lower(), name)
+    return name.replace("-", "_")
 
 
 def declared():
     """Names that the .antt files declare, but for those that answer a goal under the name that a check gave it."""
     found = collections.defaultdict(set)
     for path in files(".antt"):
-        for line in bare(path, read(path)).splitlines():
+        for line in bare(read(path)).splitlines():
             m = DECLARED.match(line)
             if m and not MADE.match(m.group(1)):
                 found[m.group(1)].add(path)
@@ -122,7 +114,7 @@ def main():
     # what falls together
     users = collections.defaultdict(set)
     for path in files(".antt", ".rt"):
-        for t in TOKEN.findall(bare(path, read(path))):
+        for t in TOKEN.findall(bare(read(path))):
             users[t].add(path)
     targets = collections.defaultdict(set)
     for n in names:
