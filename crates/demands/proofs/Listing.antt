@@ -39,7 +39,7 @@ use Rattle.rules.proofs.Choices.{choice, chosen_none, chosen_granted, carries_te
 use Rattle.rules.proofs.Obeys.{sound_obeys, few_events}
 use Rattle.demands.proofs.EventsSuffice.{carries_back}
 use Rattle.histories.proofs.Replies as every_kind
-use Rattle.demands.proofs.Replies.{replies, replies_after}
+use Rattle.demands.proofs.Replies.{replies_after}
 use Rattle.histories.proofs.Exits.{answer_is}
 
 -- ---- a minute is possible by the search if and only if it is by some path

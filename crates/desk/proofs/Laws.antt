@@ -1,6 +1,6 @@
 -- The table that `link_table` fills, and the list that it stands for: up to 64 links it is the list itself, and past them
--- every call is refused 1 with the tables as they came. So a call's outcome is the same of both, which the walks of the
--- calls cite by the law NAME-same of each definition NAME that their contracts name.
+-- every call is refused 1 with the tables as they came. So a call's outcome is the same of both, which the answers of the
+-- calls cite by the law NAME_same of each definition NAME that their contracts name.
 use mathlib.Core.Path.{◌≡◌, refl, sym, ap, ◌∙◌}
 use mathlib.Core.Bool.{Bool, true, false}
 use mathlib.Core.List.{List, [], ◌∷◌, ◌++◌, map}

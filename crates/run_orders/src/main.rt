@@ -52,9 +52,19 @@ fn read_full(stdin: &mut Stdin, buffer: &mut [u8]) -> usize
     done
 }
 
-// Writes the bytes out; answers whether all were taken.
+// Writes the bytes out, up to the first write that fails or takes nothing; answers whether all were taken.
 fn write_out(stdout: &mut Stdout, bytes: &[u8]) -> bool {
-    stdout.write_all(bytes).is_ok()
+    let mut done = 0;
+    while done < bytes.len() {
+        let Ok(taken) = stdout.write(&bytes[done..]) else {
+            return false;
+        };
+        if taken == 0 {
+            return false;
+        }
+        done += taken;
+    }
+    true
 }
 
 // Reads the first byte.

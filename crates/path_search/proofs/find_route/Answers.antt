@@ -31,7 +31,7 @@ returns-else-least-lt-MOST c =
     let args = c.args in
     let done = c.distances-done in
     let least = c.least_end-least in
-    let None-found =
+    let none_found =
     route_none (graph args.ends) (usable args.set) args.destination (nodes_below args.ends c.requires) (figures done.result.table) done.ensures.shows args.source least.result
     least.ensures c.if-least-lt-MOST.false in
-    c.no_path.ensures ∙ sym (ap answer None-found)
+    c.no_path.ensures ∙ sym (ap answer none_found)
