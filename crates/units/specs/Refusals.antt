@@ -1,5 +1,7 @@
 -- The refusal numbers of documents 01 and 02, each once; 0 is the number of an accepted call.
-use Rattle.std.specs.Prelude.{ℕ}
+use Rattle.std.specs.Prelude.{ℕ, Result, Ok, Err}
+use Rattle.units.specs.declared.Refusal.{Refusal}
+use Rattle.units.specs.declared.Refusal.TheVariants.{BadSize, BadLink, Unsound, BadField, TooLate, NumberStands, BookFull, NoStart, NotStanding, ClockBack, BadBits, BadLength, BadList}
 
 -- a size of a list or table
 abbrev pub bad_size : ℕ
@@ -52,3 +54,24 @@ bad_length = 12
 -- the length of a lent list
 abbrev pub bad_list : ℕ
 bad_list = 13
+
+-- the number of each refusal
+abbrev pub number : Refusal → ℕ
+number BadSize = bad_size
+number BadLink = bad_link
+number Unsound = unsound
+number BadField = bad_field
+number TooLate = too_late
+number NumberStands = number_stands
+number BookFull = book_full
+number NoStart = no_start
+number NotStanding = not_standing
+number ClockBack = clock_back
+number BadBits = bad_bits
+number BadLength = bad_length
+number BadList = bad_list
+
+-- and of an answer that may be one: 0 is the number of an accepted call
+abbrev pub number_of : {A : Type 0} → Result A Refusal → ℕ
+number_of (Ok _) = 0
+number_of (Err refusal) = number refusal

@@ -5,6 +5,7 @@
 
 ghost use Rattle.std.specs.Prelude.{◌≡◌, ◌++◌, ◌-◌, ◌≤◌, ◌<◌, length, take, replicate};
 ghost use Rattle.units.specs.Limits.{most_links, last_shown};
+ghost use Rattle.units.specs.Refusals.{number};
 ghost use Rattle.units.specs.Spans.{low_of, span_of, most_span, release};
 ghost use Rattle.units.specs.LinkTables.{empty_table, with_link, at_most_64};
 
@@ -81,6 +82,32 @@ pub const BAD_BITS: u32 = 11;
 pub const BAD_LENGTH: u32 = 12;
 
 pub const BAD_LIST: u32 = 13;
+
+// Why a call is refused. As a number it is that of documents 01 and 02; 0 is the number of an accepted call.
+#[derive(Clone, Copy, Debug, PartialEq, Eq)]
+pub enum Refusal {
+    BadSize = 1,
+    BadLink = 2,
+    Unsound = 3,
+    BadField = 4,
+    TooLate = 5,
+    NumberStands = 6,
+    BookFull = 7,
+    NoStart = 8,
+    NotStanding = 9,
+    ClockBack = 10,
+    BadBits = 11,
+    BadLength = 12,
+    BadList = 13,
+}
+
+impl From<Refusal> for u32 {
+    ghost from_gives = { λ refusal figure. figure ≡ number refusal };
+
+    fn from(refusal: Refusal) -> u32 {
+        refusal as u32
+    }
+}
 
 // A point in time, in whole minutes.
 #[repr(C)]
