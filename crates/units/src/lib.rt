@@ -3,10 +3,12 @@
 // crate uses them; nothing here decides anything.
 #![tactic(auto)]
 
-ghost use Rattle.std.specs.Prelude.{◌≡◌, ◌++◌, ◌-◌, ◌≤◌, ◌<◌, length, take, replicate};
+ghost use Rattle.std.specs.Prelude.{◌≡◌, ℕ, ◌++◌, ◌-◌, ◌≤◌, ◌<◌, length, take, replicate};
 ghost use Rattle.units.specs.Limits.{most_links, last_shown};
 ghost use Rattle.units.specs.Refusals.{number};
 ghost use Rattle.units.specs.Spans.{low_of, span_of, most_span, release};
+ghost use Rattle.units.specs.declared.Link.{Link};
+ghost use Rattle.units.specs.Columns.{column, Reads};
 ghost use Rattle.units.specs.LinkTables.{empty_table, with_link, at_most_64};
 
 // The last node; nodes are numbered from 0.
@@ -231,6 +233,18 @@ pub fn put(table: LinkTable, i: usize, link: Link) -> LinkTable
     filled.to[i] = link.to;
     filled.capacity[i] = link.capacity.0;
     filled
+}
+
+// A field of the first 64 links of a list, zero past the last.
+pub fn column<F: Fn(&Link) -> u32>(links: &[Link], read: F) -> [u32; LINKS]
+    requires { F.IsAlwaysCallable read }
+    ensures { (field : Link → ℕ) → Reads F.Fn read field → result ≡ column field links.now }
+{
+    let mut column = [0; LINKS];
+    for (i, link) in links[..links.len().min(LINKS)].iter().enumerate() {
+        column[i] = read(link);
+    }
+    column
 }
 
 // How many of `n` links the columns have a place for.
