@@ -9,8 +9,11 @@ ghost use Rattle.free_table.specs.Figures.{kept, all_free, Capacities};
 ghost use Rattle.free_table.specs.Taking.{less_rows, less_span, Sized, WholeRows};
 ghost use Rattle.free_table.specs.Looking.{enough_rows, enough_span, Marks, TablesSized};
 
+mod view;
+
 use timeline::row_at;
 use units::{Bandwidth, LINKS, LinkNumber, Minute, ROW, clear_from};
+pub use view::FreeTable;
 
 // The free table of a desk without bookings: the capacities of its links at the one event, the clock.
 pub fn reset_free(free: &mut [u32], capacities: &[u32], links: usize)
@@ -23,16 +26,6 @@ pub fn reset_free(free: &mut [u32], capacities: &[u32], links: usize)
         link += 1;
     }
     clear_from(free, links);
-}
-
-// The bandwidth that a link has free in a minute.
-pub fn free_figure(events: &[u32], free: &[u32], link: LinkNumber, minute: Minute) -> Bandwidth
-    requires { Sized events.now free.now link.0 }
-    ensures { result.0 ≡ kept events.now free.now link.0 minute.0 }
-{
-    let row = row_at(events, minute);
-    let at = row * ROW + link.0 as usize;
-    Bandwidth(free[at])
 }
 
 // A figure less a bandwidth, and zero where it is too small.
@@ -95,24 +88,6 @@ fn enough(part: &[u32], rows: usize, link: LinkNumber, bandwidth: Bandwidth) -> 
     true
 }
 
-// Whether one link has the bandwidth free in every minute from start to end - 1.
-pub fn has_bandwidth(
-    events: &[u32],
-    free: &[u32],
-    start: Minute,
-    end: Minute,
-    link: LinkNumber,
-    bandwidth: Bandwidth,
-) -> bool
-    requires { Sized events.now free.now link.0 × (start.0 < end.0) }
-    ensures { result ≡ enough_span events.now start.0 end.0 link.0 bandwidth.0 free.now }
-{
-    let first = row_at(events, start);
-    let last = row_at(events, Minute(end.0 - 1));
-    let from = first * ROW;
-    enough(&free[from..], last - first + 1, link, bandwidth)
-}
-
 // Whether a link that has the bandwidth before, has it in a row with this figure too.
 fn lasts(before: bool, figure: u32, bandwidth: Bandwidth) -> bool
     ensures { result ≡ (before && leb bandwidth.0 figure) }
@@ -148,21 +123,4 @@ fn lasting_in_rows(part: &[u32], rows: usize, bandwidth: Bandwidth) -> [bool; LI
         next += 1;
     }
     marked
-}
-
-// The links that have the bandwidth free in every minute from start to end - 1.
-pub fn lasting_links(
-    events: &[u32],
-    free: &[u32],
-    start: Minute,
-    end: Minute,
-    bandwidth: Bandwidth,
-) -> [bool; LINKS]
-    requires { TablesSized events.now free.now × (start.0 < end.0) }
-    ensures { Marks result (λ l. enough_span events.now start.0 end.0 l bandwidth.0 free.now) }
-{
-    let first = row_at(events, start);
-    let end_row = row_at(events, Minute(end.0 - 1));
-    let from = first * ROW;
-    lasting_in_rows(&free[from..], end_row - first + 1, bandwidth)
 }

@@ -12,7 +12,7 @@ ghost use Rattle.free_table.specs.Looking.{TablesSized};
 ghost use Rattle.rebuild.specs.Rebuilding.{place_path, release_of, less_path, enough_path, PlaceRight, CanRebuild};
 
 use book::{Booking, booking_at};
-use free_table::{has_bandwidth, reset_free, take_bandwidth};
+use free_table::{FreeTable, reset_free, take_bandwidth};
 use timeline::{insert_span, reset_events};
 use units::{Head, LinkNumber, LinkTable, Minute, release};
 
@@ -23,18 +23,15 @@ fn path_fits(events: &[u32], free: &[u32], b: Booking, until: Minute) -> bool
     requires ends_later { b.start.0 < until.0 }
     ensures { result ≡ enough_path events.now b.start.0 until.0 b.bandwidth.0 (place_path b) free.now }
 {
+    let table = FreeTable {
+        events,
+        figures: free,
+    };
     let links = b.links;
     let count = b.count as usize;
     let mut i = 0;
     while i < count {
-        if !has_bandwidth(
-            events,
-            free,
-            b.start,
-            until,
-            LinkNumber(links[i]),
-            b.bandwidth,
-        ) {
+        if !table.has_bandwidth(b.start, until, LinkNumber(links[i]), b.bandwidth) {
             return false;
         }
         i += 1;

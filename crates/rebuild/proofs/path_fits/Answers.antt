@@ -29,17 +29,11 @@ offset_bounds-links-i c = let r = c.requires.place_right in omega (arith, r.coun
 pub bounds-links-i : goal.bounds-links-i
 bounds-links-i c = let r = c.requires.place_right in omega (arith, r.count_right)
 
-pub has_bandwidth-requires : goal.has_bandwidth-requires
-has_bandwidth-requires c =
+pub has_bandwidth-requires-clause-link_exists : goal.has_bandwidth-requires-clause-link_exists
+has_bandwidth-requires-clause-link_exists c =
     let r = c.requires.place_right in
-    let b = c.args.b in (
-      record {
-        some = c.requires.sized.some;
-        free_sized = c.requires.sized.free_sized;
-        column = all_along b.links b.count c.loop-i.i (path_whole (goal.at.has_bandwidth-requires c).Start) (λ l. l < most_links) r.links_right c.loop-i-test.true;
-      },
-      c.requires.ends_later,
-    )
+    let b = c.args.b in
+    all_along b.links b.count c.loop-i.i (path_whole (goal.at.has_bandwidth-requires-clause-link_exists c).Start) (λ l. l < most_links) r.links_right c.loop-i-test.true
 
 pub returns-then-not-has_bandwidth : goal.returns-then-not-has_bandwidth
 returns-then-not-has_bandwidth c =

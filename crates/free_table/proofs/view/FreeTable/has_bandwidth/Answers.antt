@@ -8,21 +8,21 @@ use Rattle.units.specs.Limits.{most_links}
 use Rattle.timeline.proofs.Rows.{row_inside, row_later}
 use Rattle.units.proofs.Pieces.{rest_whole, length_rest}
 use Rattle.free_table.specs.Looking.{enough_rows, enough_span}
-use Rattle.free_table.proofs.has_bandwidth.Goals as goal
-use Rattle.free_table.proofs.has_bandwidth.Goals.{After-row_at-last}
+use Rattle.free_table.proofs.view.FreeTable.has_bandwidth.Goals as goal
+use Rattle.free_table.proofs.view.FreeTable.has_bandwidth.Goals.{After-row_at-last}
 
 -- the rows of the start and of the last minute are the table's, in that order
-rows_found : (c : After-row_at-last) → (c.row_at-first.result ≤ c.row_at-last.result) × (c.row_at-last.result < length c.args.events.now)
+rows_found : (c : After-row_at-last) → (c.row_at-first.result ≤ c.row_at-last.result) × (c.row_at-last.result < length c.args.self.now.events.now)
 rows_found c = (
-  rw (c.row_at-first.ensures, c.row_at-last.ensures) (row_later c.args.start.0 _ c.args.events.now (omega arith)),
-  rw c.row_at-last.ensures (row_inside _ c.args.events.now c.requires.0.some),
+  rw (c.row_at-first.ensures, c.row_at-last.ensures) (row_later c.args.start.0 _ c.args.self.now.events.now (omega arith)),
+  rw c.row_at-last.ensures (row_inside _ c.args.self.now.events.now c.args.self.now.sized.some),
 )
 
 pub overflow_mul-from : goal.overflow_mul-from
 overflow_mul-from c = omega (arith, rows_found (goal.at.overflow_mul-from c).After-row_at-last)
 
-pub offset_bounds-free-from : goal.offset_bounds-free-from
-offset_bounds-free-from c = omega (arith, rows_found (goal.at.offset_bounds-free-from c).After-row_at-last)
+pub offset_bounds-self-from : goal.offset_bounds-self-from
+offset_bounds-self-from c = omega (arith, rows_found (goal.at.offset_bounds-self-from c).After-row_at-last)
 
 pub slice_bounds-enough-count : goal.slice_bounds-enough-count
 slice_bounds-enough-count c = omega (arith, rows_found (goal.at.slice_bounds-enough-count c).After-row_at-last)
@@ -46,5 +46,5 @@ returns c =
     let p = c.row_at-last in
     let a = c.args in
     c.enough.ensures
-    ∙ ap₂ (λ n t. enough_rows n a.link.0 a.bandwidth.0 t) (add-one (p.result - f.result)) (rest_whole (f.result * most_links) a.free.now)
-    ∙ ap₂ (λ i j. enough_rows (suc (j - i)) a.link.0 a.bandwidth.0 (drop (i * most_links) a.free.now)) f.ensures p.ensures
+    ∙ ap₂ (λ n t. enough_rows n a.link.0 a.bandwidth.0 t) (add-one (p.result - f.result)) (rest_whole (f.result * most_links) a.self.now.figures.now)
+    ∙ ap₂ (λ i j. enough_rows (suc (j - i)) a.link.0 a.bandwidth.0 (drop (i * most_links) a.self.now.figures.now)) f.ensures p.ensures
