@@ -126,7 +126,6 @@ holds : (e : Entry) → ((f : ℕ) → e.least ≤ f → f ≤ e.most → All Li
 holds e right r f a b t size = replies_after (e.links f) (right f a b) t size (e.calls f) ∙ ap (λ (x : List Answer). done ∷ x) (r f a b)
 
 session_right : All LinkRight session_links
-unfolding all
 session_right = (links_tell session_links).0 refl
 
 pub examples : Examples outcome

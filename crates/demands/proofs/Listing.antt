@@ -146,5 +146,5 @@ calls =
 
 pub example : (t : Tables) → sized (only 1) t ≡ true → answers outcome (only 1) t (set_up ∷ map ask calls)
     ≡ done ∷ start_at 3 (0 ∷ []) ∷ lists (record { first = 0; last = 1 } ∷ record { first = 5; last = 6 } ∷ []) ∷ lists [] ∷ refuse 13 ∷ refuse 4 ∷ refuse 5 ∷ []
-unfolding every_kind.replies kinds.answer checked best every ranges ranges_from select member sum all earliest can_start reaches lowest fewest route first_from all_from any_below
+unfolding every_kind.replies kinds.answer checked best every ranges ranges_from select member sum earliest can_start reaches lowest fewest route first_from all_from any_below
 example t size = replies_after (only 1) ((links_tell (only 1)).0 refl) t size calls

@@ -124,7 +124,7 @@ abbrev second : Request
 second = request 0 2 6 5 0 1000000000
 
 first_passes : Passes session_links fresh (ask (offer first))
-unfolding checked sound sound_with tables later flatten count_from bookings.by_number rising all equal sum all_from
+unfolding checked sound sound_with tables later flatten count_from bookings.by_number rising equal sum all_from
 first_passes = refl
 
 pub not_says_8 : ¬ Demand2 (desk_of says_8)
@@ -135,7 +135,7 @@ pub not_always_0 : ¬ Demand2 (desk_of always_0)
 not_always_0 d = let link_0_leads_to_2 : ◌≡◌ {A = ℕ} 1 2 = (((d.offering session_links fresh first first_passes).start_iff (record { start = 0; path = 0 ∷ [] })).0 refl).works.0.2 in omega arith
 
 set_up_done : (outcome session_links fresh set_up).answer ≡ done
-unfolding kinds.outcome kinds.answer_on checked all tables later flatten count_from bookings.by_number
+unfolding kinds.outcome kinds.answer_on checked tables later flatten count_from bookings.by_number
 set_up_done = refl
 
 -- the session's desk after a set-up and these calls
@@ -143,7 +143,7 @@ abbrev after : (sham : Sham) → List Call → Moment bandwidth_desk (desk_of sh
 after sham calls = record { before = fresh; start = tt; accepted = set_up_done; calls = calls }
 
 pub not_writes_nothing : ¬ Demand3 (desk_of writes_nothing)
-unfolding now plain left counted kinds.outcome kinds.answer_on kinds.answer checked best member sum earliest can_start route fewest lowest reaches first_from all_from any_below row_at passed sound sound_with tables later insert_rising flatten count_from bookings.by_number bookings.insert_by_number goes_on rising all equal
+unfolding now plain left counted kinds.outcome kinds.answer_on kinds.answer checked best member sum earliest can_start route fewest lowest reaches first_from all_from any_below row_at passed sound sound_with tables later insert_rising flatten count_from bookings.by_number bookings.insert_by_number goes_on rising equal
 not_writes_nothing d =
     let s = (d.counts session_links (after writes_nothing (ask (book 7 first) ∷ []))).as_kept 2 0 (lit< tt) (lit≤ tt) in
     let kept_4 : ◌≡◌ {A = ℕ} 4 s.0 = s.1 in
@@ -151,7 +151,7 @@ not_writes_nothing d =
     omega arith
 
 pub not_first_only : ¬ Demand3 (desk_of first_only)
-unfolding now plain left counted kinds.outcome kinds.answer_on kinds.answer checked best member sum earliest can_start route fewest lowest reaches first_from all_from any_below row_at passed sound sound_with tables later insert_rising flatten count_from bookings.by_number bookings.insert_by_number goes_on rising all equal
+unfolding now plain left counted kinds.outcome kinds.answer_on kinds.answer checked best member sum earliest can_start route fewest lowest reaches first_from all_from any_below row_at passed sound sound_with tables later insert_rising flatten count_from bookings.by_number bookings.insert_by_number goes_on rising equal
 not_first_only d =
     let s = (d.counts session_links (after first_only (ask (book 7 first) ∷ ask (book 9 second) ∷ []))).as_kept 0 0 (lit< tt) (lit≤ tt) in
     let kept_10 : ◌≡◌ {A = ℕ} 10 s.0 = s.1 in
@@ -171,11 +171,11 @@ abbrev two_minutes : Request
 two_minutes = request 0 2 4 10 0 1
 
 two_pass : Passes session_links fresh (ask (list list_size two_minutes))
-unfolding checked sound sound_with tables later flatten count_from bookings.by_number rising all equal sum all_from
+unfolding checked sound sound_with tables later flatten count_from bookings.by_number rising equal sum all_from
 two_pass = refl
 
 listed_apart : (desk_of splits session_links fresh (ask (list list_size two_minutes))).answer ≡ lists (record { first = 0; last = 0 } ∷ record { first = 1; last = 1 } ∷ [])
-unfolding kinds.outcome kinds.answer_on kinds.answer checked every ranges ranges_from member sum can_start route fewest lowest reaches first_from all_from any_below row_at passed sound sound_with tables later insert_rising flatten count_from bookings.by_number bookings.insert_by_number goes_on rising all equal
+unfolding kinds.outcome kinds.answer_on kinds.answer checked every ranges ranges_from member sum can_start route fewest lowest reaches first_from all_from any_below row_at passed sound sound_with tables later insert_rising flatten count_from bookings.by_number bookings.insert_by_number goes_on rising equal
 listed_apart = refl
 
 pub not_splits : ¬ EveryStart (desk_of splits)
@@ -191,7 +191,7 @@ first_stands = tables session_links (put_in (record { number = 7; terms = terms 
 
 offered_again : (f : Answer → Answer) → answers (after_cancelling f) session_links first_stands (ask (offer second) ∷ ask (cancel 7) ∷ ask (offer second) ∷ [])
     ≡ start_at 0 (0 ∷ 1 ∷ []) ∷ done ∷ f (start_at 0 (0 ∷ 1 ∷ [])) ∷ []
-unfolding answers kinds.outcome kinds.answer_on kinds.answer checked best member sum earliest can_start route fewest lowest reaches first_from all_from any_below row_at passed sound sound_with tables later insert_rising flatten count_from bookings.by_number bookings.insert_by_number goes_on rising all equal select
+unfolding answers kinds.outcome kinds.answer_on kinds.answer checked best member sum earliest can_start route fewest lowest reaches first_from all_from any_below row_at passed sound sound_with tables later insert_rising flatten count_from bookings.by_number bookings.insert_by_number goes_on rising equal select
 offered_again f = refl
 
 -- what a desk that has the property would then say
@@ -219,11 +219,11 @@ deaf links t (set_up_with s) = unheard (sized links t && sound links t) t (outco
 deaf links t (ask a) = outcome links t (ask a)
 
 set_up_passes : Passes session_links fresh set_up
-unfolding checked tables later flatten count_from bookings.by_number all
+unfolding checked tables later flatten count_from bookings.by_number
 set_up_passes = refl
 
 pub not_deaf : ¬ Demand1 deaf
-unfolding sound sound_with tables later flatten count_from bookings.by_number rising all equal sum all_from
+unfolding sound sound_with tables later flatten count_from bookings.by_number rising equal sum all_from
 not_deaf d = shows≢done (d.in_form session_links fresh set_up set_up_passes)
 
 -- 9. answers every set-up so, and writes nothing
@@ -232,7 +232,7 @@ mute links t (set_up_with s) = says (on_done (outcome links t (set_up_with s)).a
 mute links t (ask a) = outcome links t (ask a)
 
 pub not_mute : ¬ Demand1 mute
-unfolding kinds.outcome kinds.answer_on checked tables later flatten count_from bookings.by_number all
+unfolding kinds.outcome kinds.answer_on checked tables later flatten count_from bookings.by_number
 not_mute d = shows≢done (d.in_form session_links fresh set_up set_up_passes)
 
 -- 10. answers every cancellation so
@@ -240,9 +240,9 @@ abbrev mute_cancelling : Sham
 mute_cancelling proper t a = by_kind a proper proper (on_done proper.answer (says (shows 0) proper.tables) proper) proper proper
 
 cancel_passes : Passes session_links first_stands (ask (cancel 7))
-unfolding checked member sum sound sound_with tables later insert_rising flatten count_from bookings.by_number bookings.insert_by_number goes_on rising all equal all_from any_below
+unfolding checked member sum sound sound_with tables later insert_rising flatten count_from bookings.by_number bookings.insert_by_number goes_on rising equal all_from any_below
 cancel_passes = refl
 
 pub not_mute_cancelling : ¬ Demand1 (desk_of mute_cancelling)
-unfolding kinds.outcome kinds.answer_on kinds.answer checked member sum sound sound_with tables later insert_rising flatten count_from bookings.by_number bookings.insert_by_number goes_on rising all equal all_from any_below select
+unfolding kinds.outcome kinds.answer_on kinds.answer checked member sum sound sound_with tables later insert_rising flatten count_from bookings.by_number bookings.insert_by_number goes_on rising equal all_from any_below select
 not_mute_cancelling d = shows≢done (d.in_form session_links first_stands (ask (cancel 7)) cancel_passes)

@@ -100,7 +100,6 @@ abbrev pub Fits : List Link → Plain → Booking → Type 0
 Fits links p b = (l : ℕ) → Memᴰ l b.grant.path → (m : ℕ) → p.clock ≤ m → b.grant.start ≤ m → m < until p b → b.terms.bandwidth ≤ free links p l m
 
 all_tells_in : (test : ℕ → Bool) (P Q : ℕ → Type 0) → ((l : ℕ) → Q l → Tells (test l) (P l)) → (path : List ℕ) → All Q path → Tells (all test path) ((l : ℕ) → Memᴰ l path → P l)
-unfolding all
 all_tells_in test P Q f [] a = ((λ e l i. absurd (Memᴰ.not-nil i)), λ h. refl)
 all_tells_in test P Q f (l ∷ ls) a =
     let both = f l a.0 & all_tells_in test P Q f ls a.1 in (

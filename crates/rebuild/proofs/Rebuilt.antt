@@ -19,16 +19,15 @@ use Rattle.free_table.proofs.Figures.{length_table}
 use Rattle.free_table.proofs.Tables.{all_free_table}
 use Rattle.book.specs.declared.Booking.{Booking as Place}
 use Rattle.book.specs.Places.{booking_in}
-use Rattle.units.specs.declared.LinkTable.{LinkTable}
-use Rattle.rules.specs.Plain.{Plain, with_book, until, free}
+use Rattle.rules.specs.Plain.{no_link, Plain, with_book, until, free}
 use Rattle.rules.specs.Calls.{put_in}
 use Rattle.rules.specs.Tables.{events_of, event_table, free_table, booking_of, booking_at, held_by}
 use Rattle.rules.specs.Sound.{BookingRight}
-use Rattle.units.specs.LinkTables.{links_of}
 use Rattle.rebuild.specs.Rebuilding.{release_of, PlaceRight, CanRebuild}
 use Rattle.rules.specs.Desk.{NotOversold}
 use Rattle.rules.proofs.Obeys.{right_in}
-use Rattle.rules.proofs.LinkColumns.{links_count, capacity_column}
+use Rattle.units.specs.Columns.{column}
+use Rattle.units.proofs.Columns.{length_column, column_at}
 use Rattle.rebuild.proofs.Added.{events_few, oversold_added, CanAdd, Adds, add_asks, added}
 
 -- the tables of a plain book, and whether no link is oversold
@@ -95,36 +94,38 @@ module _ (head : Head) (book : List ℕ) where
 
 -- ---- no bookings
 
-module _ (columns : LinkTable) (head : Head) (book : List ℕ) (few : columns.count ≤ most_links) (given : columns.count ≤ length columns.capacity) where
-  pub rebuilt_none : (es t : List ℕ) → es ≡ only_clock most_events head.clock.0 → t ≡ all_free (most_events * most_links) columns.count columns.capacity → Rebuilt (links_of columns) (from_place head book head.bookings) es t true
+module _ (links : List Link) (head : Head) (book : List ℕ) (few : length links ≤ most_links) where
+  abbrev pub capacities : List ℕ
+  capacities = column (λ l. l.capacity.0) links
+
+  pub rebuilt_none : (es t : List ℕ) → es ≡ only_clock most_events head.clock.0 → t ≡ all_free (most_events * most_links) (length links) capacities → Rebuilt links (from_place head book head.bookings) es t true
   unfolding count_from flatten sum
   rebuilt_none es t is-events is_free = subst (λ p. Rebuilt links p es t true) (sym nothing_left) none
     where
-      links : List Link
-      links = links_of columns
-
       bare : Plain
       bare = with_book (held_by head book) []
 
       nothing_left : from_place head book head.bookings ≡ bare
       nothing_left = let e : head.bookings - head.bookings ≡ 0 = omega arith in ap (λ k. with_book (held_by head book) (map (booking_at book) (count_from head.bookings k))) e
 
-      capacities : (l : ℕ) → l < length links → get_or columns.capacity l 0 ≡ free links bare l head.clock.0
-      capacities l h = let same = capacity_column columns l (omega (arith, links_count columns)) in omega arith
+      long : length links ≤ length capacities
+      long = omega (arith, length_column (λ l. l.capacity.0) links)
+
+      figures : (l : ℕ) → l < length links → get_or capacities l 0 ≡ free links bare l head.clock.0
+      figures l h = let same = column_at (λ l. l.capacity.0) links l no_link (omega arith) h in omega arith
 
       none : Rebuilt links bare es t true
       none = record {
         events_are = is-events ∙ only_clock_events most_events head.clock.0;
-        free_are = is_free ∙ ap (λ k. all_free (most_events * most_links) k columns.capacity) (sym (links_count columns))
-            ∙ all_free_table most_events (length links) (free links bare) head.clock.0 columns.capacity (omega arith) (omega (arith, links_count columns)) (omega (arith, links_count columns)) capacities;
+        free_are = is_free ∙ all_free_table most_events (length links) (free links bare) head.clock.0 capacities (omega arith) few long figures;
         answer_is = ((λ e l m h. omega arith), λ h. refl);
       }
 
 -- ---- one place more
 
-module _ (columns : LinkTable) (head : Head) (book : List ℕ) {es₀ t₀ : List ℕ} (can : CanRebuild columns head book es₀ t₀) where
-  one_right : (i : ℕ) → i < head.bookings → BookingRight (links_of columns) (held_by head book) (booking_at book i)
-  one_right i h = counted_one (booking_at book) (BookingRight (links_of columns) (held_by head book)) 0 head.bookings can.bookings_right i (omega arith) (omega arith)
+module _ (links : List Link) (head : Head) (book : List ℕ) {es₀ t₀ : List ℕ} (can : CanRebuild links head book es₀ t₀) where
+  one_right : (i : ℕ) → i < head.bookings → BookingRight links (held_by head book) (booking_at book i)
+  one_right i h = counted_one (booking_at book) (BookingRight links (held_by head book)) 0 head.bookings can.bookings_right i (omega arith) (omega arith)
 
   all_stand : (i : ℕ) → All (λ b. head.clock.0 < until (from_place head book i) b) (from_place head book i).bookings
   all_stand i = counted_all (booking_at book) (λ b. head.clock.0 < until (from_place head book i) b) i (head.bookings - i) (λ j a h. (one_right j (omega arith)).still_stands)
@@ -132,37 +133,37 @@ module _ (columns : LinkTable) (head : Head) (book : List ℕ) {es₀ t₀ : Lis
   length_from : (i : ℕ) → length (from_place head book i).bookings ≡ head.bookings - i
   length_from i = length-map (count_from i (head.bookings - i)) (booking_at book) ∙ length_count i (head.bookings - i)
 
-  few_links : length (links_of columns) ≤ most_links
-  few_links = rw (links_count columns) can.few_links
+  few_links : length links ≤ most_links
+  few_links = can.few_links
 
   -- the tables at any place have the right sizes
-  pub place_sizes : (i : ℕ) {es t : List ℕ} {fits : Bool} → Rebuilt (links_of columns) (from_place head book i) es t fits → (length es ≡ most_events) × (length t ≡ most_events * most_links)
+  pub place_sizes : (i : ℕ) {es t : List ℕ} {fits : Bool} → Rebuilt links (from_place head book i) es t fits → (length es ≡ most_events) × (length t ≡ most_events * most_links)
   place_sizes i r =
       let few : length (from_place head book i).bookings ≤ most_bookings = omega (arith, length_from i, can.few_bookings) in
-      (events_sized (links_of columns) (from_place head book i) few_links few r, free_sized (links_of columns) (from_place head book i) few_links few r)
+      (events_sized links (from_place head book i) few_links few r, free_sized links (from_place head book i) few_links few r)
 
-  can_add : (i : ℕ) → i < head.bookings → CanAdd (links_of columns) (from_place head book (suc i)) (booking_in book i)
+  can_add : (i : ℕ) → i < head.bookings → CanAdd links (from_place head book (suc i)) (booking_in book i)
   can_add i h = record {
     few_links = few_links;
     room = omega (arith, length_from (suc i), can.few_bookings);
-    right = let r = one_right i h in right_in (links_of columns) (held_by head book) (from_place head book (suc i)) (booking_at book i) r.still_stands r;
+    right = let r = one_right i h in right_in links (held_by head book) (from_place head book (suc i)) (booking_at book i) r.still_stands r;
     count_right = can.counts_right i h;
   }
 
   -- the tables of the places from `place` on, and the booking of the place before
   module _ (place : ℕ) (some : 0 < place) (inside : place ≤ head.bookings) (b : Place) (is : b ≡ booking_in book (place - 1)) {es t : List ℕ} {fits : Bool}
-      (r : Rebuilt (links_of columns) (from_place head book place) es t fits) where
-    so_far : Rebuilt (links_of columns) (from_place head book (suc (place - 1))) es t fits
-    so_far = let e : place ≡ suc (place - 1) = omega arith in subst (λ i. Rebuilt (links_of columns) (from_place head book i) es t fits) e r
+      (r : Rebuilt links (from_place head book place) es t fits) where
+    so_far : Rebuilt links (from_place head book (suc (place - 1))) es t fits
+    so_far = let e : place ≡ suc (place - 1) = omega arith in subst (λ i. Rebuilt links (from_place head book i) es t fits) e r
 
-    can_be : CanAdd (links_of columns) (from_place head book (suc (place - 1))) b
-    can_be = subst (CanAdd (links_of columns) (from_place head book (suc (place - 1)))) (sym is) (can_add (place - 1) (omega arith))
+    can_be : CanAdd links (from_place head book (suc (place - 1))) b
+    can_be = subst (CanAdd links (from_place head book (suc (place - 1)))) (sym is) (can_add (place - 1) (omega arith))
 
     pub place_asks : Room es t 2 × PlaceRight b
-    place_asks = rebuilt_asks (links_of columns) (from_place head book (suc (place - 1))) b can_be so_far
+    place_asks = rebuilt_asks links (from_place head book (suc (place - 1))) b can_be so_far
 
-    pub place_gives : (es' t' : List ℕ) (answer : Bool) → Adds (release_of head b) b es t es' t' answer → Rebuilt (links_of columns) (from_place head book (place - 1)) es' t' (answer && fits)
+    pub place_gives : (es' t' : List ℕ) (answer : Bool) → Adds (release_of head b) b es t es' t' answer → Rebuilt links (from_place head book (place - 1)) es' t' (answer && fits)
     place_gives es' t' answer h =
-        subst (λ p. Rebuilt (links_of columns) p es' t' (answer && fits))
+        subst (λ p. Rebuilt links p es' t' (answer && fits))
         (sym (from_next head book (place - 1) (omega arith) ∙ ap (λ d. put_in (booking_of d) (from_place head book (suc (place - 1)))) (sym is)))
-        (rebuilt_gives (links_of columns) (from_place head book (suc (place - 1))) b can_be so_far (all_stand (suc (place - 1))) es' t' answer h)
+        (rebuilt_gives links (from_place head book (suc (place - 1))) b can_be so_far (all_stand (suc (place - 1))) es' t' answer h)

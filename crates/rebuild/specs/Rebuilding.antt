@@ -8,9 +8,8 @@ use Rattle.free_table.specs.Taking.{less_span}
 use Rattle.free_table.specs.Looking.{enough_span}
 use Rattle.book.specs.declared.Booking.{Booking as Place}
 use Rattle.book.specs.Places.{booking_in}
-use Rattle.units.specs.declared.LinkTable.{LinkTable}
+use Rattle.units.specs.declared.Link.{Link}
 use Rattle.rules.specs.Tables.{held_by}
-use Rattle.units.specs.LinkTables.{links_of}
 use Rattle.rules.specs.Sound.{BookingRight}
 
 -- the links of a place's path, and the minute at which it releases them
@@ -37,11 +36,11 @@ pub record PlaceRight (b : Place) : Type 0 where
   pub links_right : All (λ l. l < most_links) (place_path b)
 
 -- tables of the right sizes, and a book whose places, as many as the head counts, hold right bookings
-pub record CanRebuild (links : LinkTable) (head : Head) (book es t : List ℕ) : Type 0 where
-  pub few_links : links.count ≤ most_links
+pub record CanRebuild (links : List Link) (head : Head) (book es t : List ℕ) : Type 0 where
+  pub few_links : length links ≤ most_links
   pub events_sized : length es ≡ most_events
   pub free_sized : length t ≡ most_events * most_links
   pub book_sized : length book ≡ most_bookings * place_size
   pub few_bookings : head.bookings ≤ most_bookings
   pub counts_right : (i : ℕ) → i < head.bookings → (booking_in book i).count ≤ most_hops
-  pub bookings_right : All (BookingRight (links_of links) (held_by head book)) (held_by head book).bookings
+  pub bookings_right : All (BookingRight links (held_by head book)) (held_by head book).bookings

@@ -7,34 +7,24 @@ ghost use Rattle.units.specs.Limits.{most_links};
 ghost use Rattle.timeline.specs.Insertion.{with_span, with_span_rows, Room};
 ghost use Rattle.rules.specs.Tables.{held_by, event_table, free_table};
 ghost use Rattle.rules.specs.Desk.{NotOversold};
-ghost use Rattle.units.specs.LinkTables.{links_of};
 ghost use Rattle.free_table.specs.Looking.{TablesSized};
 ghost use Rattle.rebuild.specs.Rebuilding.{place_path, release_of, less_path, enough_path, PlaceRight, CanRebuild};
 
 use book::{Booking, booking_at};
 use free_table::{FreeTable, reset_free, take_bandwidth};
 use timeline::{insert_span, reset_events};
-use units::{Head, LinkNumber, LinkTable, Minute, release};
+use units::{Head, Link, LinkNumber, Minute, column, release};
 
 // Whether every link of a booking's path has its bandwidth free from its start until a minute.
-fn path_fits(events: &[u32], free: &[u32], b: Booking, until: Minute) -> bool
-    requires sized { TablesSized events.now free.now }
+fn path_fits(table: &FreeTable<'_>, b: Booking, until: Minute) -> bool
     requires place_right { PlaceRight b }
     requires ends_later { b.start.0 < until.0 }
-    ensures { result ≡ enough_path events.now b.start.0 until.0 b.bandwidth.0 (place_path b) free.now }
+    ensures { result ≡ enough_path table.now.events.now b.start.0 until.0 b.bandwidth.0 (place_path b) table.now.figures.now }
 {
-    let table = FreeTable {
-        events,
-        figures: free,
-    };
-    let links = b.links;
-    let count = b.count as usize;
-    let mut i = 0;
-    while i < count {
-        if !table.has_bandwidth(b.start, until, LinkNumber(links[i]), b.bandwidth) {
+    for &link in &b.links[..b.count as usize] {
+        if !table.has_bandwidth(b.start, until, LinkNumber(link), b.bandwidth) {
             return false;
         }
-        i += 1;
     }
     true
 }
@@ -46,19 +36,8 @@ fn take_path(events: &[u32], free: &mut [u32], b: Booking, until: Minute)
     requires ends_later { b.start.0 < until.0 }
     ensures { free.new ≡ less_path events.now b.start.0 until.0 b.bandwidth.0 (place_path b) free.old }
 {
-    let links = b.links;
-    let count = b.count as usize;
-    let mut i = 0;
-    while i < count {
-        take_bandwidth(
-            events,
-            free,
-            b.start,
-            until,
-            LinkNumber(links[i]),
-            b.bandwidth,
-        );
-        i += 1;
+    for &link in &b.links[..b.count as usize] {
+        take_bandwidth(events, free, b.start, until, LinkNumber(link), b.bandwidth);
     }
 }
 
@@ -73,7 +52,11 @@ pub fn add_booking(head: Head, events: &mut [u32], free: &mut [u32], b: Booking)
 {
     let until = Minute(release(head, b.start, b.duration) as u32);
     insert_span(events, free, b.start, until);
-    let fits = path_fits(events, free, b, until);
+    let table = FreeTable {
+        events,
+        figures: free,
+    };
+    let fits = path_fits(&table, b, until);
     take_path(events, free, b, until);
     fits
 }
@@ -81,22 +64,21 @@ pub fn add_booking(head: Head, events: &mut [u32], free: &mut [u32], b: Booking)
 // The events and free figures of a head and its book, whatever the tables held. Answers whether no link is oversold.
 pub fn rebuild(
     head: Head,
-    links: LinkTable,
+    links: &[Link],
     events: &mut [u32],
     free: &mut [u32],
     book: &[u32],
 ) -> bool
-    requires { CanRebuild links head book.now events.old free.old }
+    requires { CanRebuild links.now head book.now events.old free.old }
     ensures { (events.new ≡ event_table (held_by head book.now))
-        × (free.new ≡ free_table (links_of links) (held_by head book.now))
-        × ((result ≡ true) ↔ NotOversold (links_of links) (held_by head book.now)) }
+        × (free.new ≡ free_table links.now (held_by head book.now))
+        × ((result ≡ true) ↔ NotOversold links.now (held_by head book.now)) }
 {
+    let capacities = column(links, |link| link.capacity.0);
     reset_events(events, head.clock);
-    reset_free(free, &links.capacity, links.count);
+    reset_free(free, &capacities, links.len());
     let mut fits = true;
-    let mut place = head.bookings as usize;
-    while 0 < place {
-        place -= 1;
+    for place in (0..head.bookings as usize).rev() {
         if !add_booking(head, events, free, booking_at(book, place)) {
             fits = false;
         }

@@ -29,15 +29,14 @@ use Rattle.rules.proofs.Tests.{booking_tells}
 -- ---- zeros
 
 pub zeros_here : (i : ℕ) (l : List ℕ) → i < length l → zeros_from i l ≡ (eqb (get_or l i 0) 0 && zeros_from (i + 1) l)
-unfolding zeros_from all
+unfolding zeros_from
 zeros_here i l h = rw add-one (ap (all (λ x. eqb x 0)) (drop-cons l i 0 h))
 
 pub zeros_past : (i : ℕ) (l : List ℕ) → length l ≤ i → zeros_from i l ≡ true
-unfolding zeros_from all
+unfolding zeros_from
 zeros_past i l h = ap (all (λ x. eqb x 0)) (drop_of_length-le l h)
 
 all_zeros_tell : (l : List ℕ) → Tells (all (λ x. eqb x 0) l) (l ≡ replicate (length l) 0)
-unfolding all
 all_zeros_tell [] = ((λ e. refl), λ e. refl)
 all_zeros_tell (x ∷ l) =
     let t = equals x 0 & all_zeros_tell l in (

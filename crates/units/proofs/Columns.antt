@@ -8,8 +8,8 @@ use Rattle.std.specs.Prelude.{min}
 use native.Mathlib.Omega.{arith}
 use borrow.Author.Tests.{ltb-true, ltb-false}
 use lib.Dec.{ltb}
-use lib.ListN.{length, get_or, set, take, replicate}
-use lib.Seq.{take-length}
+use lib.ListN.{length, get_or, set, take, replicate, length-append, length-replicate}
+use lib.Seq.{take-length, length-take-le}
 use Rattle.units.specs.declared.Link.{Link}
 use Rattle.units.specs.Limits.{most_links}
 use Rattle.units.specs.Columns.{column}
@@ -57,3 +57,7 @@ module _ (f : Link → ℕ) where
 
   pub column_end : (xs : List Link) → column f (take (min (length xs) most_links) xs) ≡ column f xs
   column_end xs = column_end_at xs (ltb (length xs) most_links) refl
+
+  pub length_column : (xs : List Link) → length (column f xs) ≡ most_links
+  unfolding column
+  length_column xs = length-take-le _ _ (omega (arith, length-append (map f xs) (replicate most_links 0), length-replicate {A = ℕ} most_links 0))

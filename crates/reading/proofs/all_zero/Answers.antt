@@ -4,29 +4,22 @@ use Rattle.units.specs.Lists.{all}
 use Rattle.reading.proofs.all_zero.Goals as goal
 
 pub returns-then-a-ne0 : goal.returns-then-a-ne0
-unfolding all
 returns-then-a-ne0 c = simp (ne_eqb _ _ c.if-a-ne0.true)
 
 pub returns-then-b-ne0 : goal.returns-then-b-ne0
-unfolding all
 returns-then-b-ne0 c = simp (eq-eqb _ _ c.if-a-ne0.false, ne_eqb _ _ c.if-b-ne0.true)
 
 pub returns-then-c-ne0 : goal.returns-then-c-ne0
-unfolding all
 returns-then-c-ne0 c = simp (eq-eqb _ _ c.if-a-ne0.false, eq-eqb _ _ c.if-b-ne0.false, ne_eqb _ _ c.if-c-ne0.true)
 
 pub returns-then-d-ne0 : goal.returns-then-d-ne0
-unfolding all
 returns-then-d-ne0 c = simp (eq-eqb _ _ c.if-a-ne0.false, eq-eqb _ _ c.if-b-ne0.false, eq-eqb _ _ c.if-c-ne0.false, ne_eqb _ _ c.if-d-ne0.true)
 
 pub returns-then-e-ne0 : goal.returns-then-e-ne0
-unfolding all
 returns-then-e-ne0 c = simp (eq-eqb _ _ c.if-a-ne0.false, eq-eqb _ _ c.if-b-ne0.false, eq-eqb _ _ c.if-c-ne0.false, eq-eqb _ _ c.if-d-ne0.false, ne_eqb _ _ c.if-e-ne0.true)
 
 pub returns-then-f-ne0 : goal.returns-then-f-ne0
-unfolding all
 returns-then-f-ne0 c = simp (eq-eqb _ _ c.if-a-ne0.false, eq-eqb _ _ c.if-b-ne0.false, eq-eqb _ _ c.if-c-ne0.false, eq-eqb _ _ c.if-d-ne0.false, eq-eqb _ _ c.if-e-ne0.false, ne_eqb _ _ c.if-f-ne0.true)
 
 pub returns : goal.returns
-unfolding all
 returns c = simp (eq-eqb _ _ c.if-a-ne0.false, eq-eqb _ _ c.if-b-ne0.false, eq-eqb _ _ c.if-c-ne0.false, eq-eqb _ _ c.if-d-ne0.false, eq-eqb _ _ c.if-e-ne0.false, eq-eqb _ _ c.if-f-ne0.false)

@@ -5,9 +5,9 @@ use Rattle.layout.specs.Records.{order_from, clear}
 use Rattle.reading.proofs.clock_from.Goals as goal
 
 pub returns-then-all_zero : goal.returns-then-all_zero
-unfolding order_from clear all
+unfolding order_from clear
 returns-then-all_zero c = rw (c.requires, sym c.all_zero.ensures ∙ c.if-all_zero.true)
 
 pub returns-else-all_zero : goal.returns-else-all_zero
-unfolding order_from clear all
+unfolding order_from clear
 returns-else-all_zero c = rw (c.requires, sym c.all_zero.ensures ∙ c.if-all_zero.false)
