@@ -6,19 +6,18 @@ use Prim.Native.Nat.{ℕ, suc, ◌+◌, ◌≤◌, ◌<◌}
 use native.Mathlib.Numerals.{add-one}
 use native.Mathlib.Omega.{arith}
 use lib.Dec.{ltb, eqb}
-use lib.ListN.{length, get_or, set, take, drop, replicate, get_or-replicate}
-use lib.Seq.{get_or-set_same, get_or-set_other, drop-cons, get_or-take, length-take-le}
+use lib.ListN.{length, get_or, set, drop, replicate, get_or-replicate, length-set, drop_of_length-le}
+use lib.Seq.{get_or-set_same, get_or-set_other, drop-cons}
 use borrow.Author.Tests.{lt-ltb, le-ltb, le-leb, lt-leb, eq-eqb, ne_eqb}
 use Rattle.units.specs.Limits.{last_node, most_hops}
 use Rattle.units.specs.Lists.{member}
 use Rattle.units.proofs.Tests.{Order, less, same, more, order}
+use Rattle.path_search.proofs.Loops.{NodesBelow}
 use Rattle.path_search.specs.Paths.{Graph, goes_on, first_node, path_ok}
-use Rattle.units.specs.declared.LinkTable.{LinkTable}
+use Rattle.units.specs.declared.Link.{Link}
 use Rattle.rules.specs.Plain.{link, graph}
-use Rattle.units.specs.LinkTables.{links_of}
-use Rattle.soundness.specs.Checking.{LinksRight}
+use Rattle.rules.specs.Tables.{links_ok}
 use Rattle.rules.proofs.Tests.{links_tell, nodes_below}
-use Rattle.rules.proofs.LinkColumns.{links_count, from_column, to_column}
 
 -- ---- the nodes met
 
@@ -51,44 +50,111 @@ module _ (g : Graph) (path : List ℕ) where
   pub path_some : 1 ≤ length path → length path ≤ most_hops → path_ok g path ≡ goes_on g (first_node g path) (first_node g path ∷ []) path
   path_some h k = simp (le-leb 1 (length path) h, le-leb (length path) most_hops k)
 
--- the next of the first `count` links, and those behind it
-pub path_rest : (links : List ℕ) (count i : ℕ) → i < count → count ≤ length links → drop i (take count links) ≡ get_or links i 0 ∷ drop (i + 1) (take count links)
-path_rest links count i h k = rw add-one (drop-cons (take count links) i 0 (rw length-take-le h) ∙ ap (λ l. l ∷ drop (suc i) (take count links)) (get_or-take count links i 0 h))
+-- the link at place i, and those behind it
+pub path_rest : (path : List ℕ) (i : ℕ) → i < length path → drop i path ≡ get_or path i 0 ∷ drop (i + 1) path
+path_rest path i h = rw add-one (drop-cons path i 0 h)
 
-module _ (t : LinkTable) (l : ℕ) where
-  pub from_node : LinksRight t → l < t.count → get_or t.from l 0 ≤ last_node
-  from_node r h = omega (arith, from_column t l h, (nodes_below (links_of t) ((links_tell (links_of t)).0 r.all_ok)).from_below l (rw links_count h))
+module _ (links : List Link) (l : ℕ) where
+  module _ (right : links_ok links ≡ true) (h : l < length links) where
+    below : NodesBelow (graph links) (suc last_node)
+    below = nodes_below links ((links_tell links).0 right)
 
-  pub to_node : LinksRight t → l < t.count → get_or t.to l 0 ≤ last_node
-  to_node r h = omega (arith, to_column t l h, (nodes_below (links_of t) ((links_tell (links_of t)).0 r.all_ok)).to_below l (rw links_count h))
+    pub from_node : (link links l).from ≤ last_node
+    from_node = omega (arith, below.from_below l h)
+
+    pub to_node : (link links l).to ≤ last_node
+    to_node = omega (arith, below.to_below l h)
 
   module _ (v : ℕ) (met ls : List ℕ) where
-    pub going_past : t.count ≤ l → goes_on (graph (links_of t)) v met (l ∷ ls) ≡ false
+    pub going_past : length links ≤ l → goes_on (graph links) v met (l ∷ ls) ≡ false
     unfolding goes_on
-    going_past h = simp (le-ltb l (length (links_of t)) (rw links_count h))
+    going_past h = simp (le-ltb l (length links) h)
 
-    module _ (known : l < t.count) where
-      known_test : ltb l (length (links_of t)) ≡ true
-      known_test = lt-ltb l (length (links_of t)) (rw links_count known)
+    module _ (known : l < length links) where
+      known_test : ltb l (length links) ≡ true
+      known_test = lt-ltb l (length links) known
 
-      pub going_elsewhere : (get_or t.from l 0 ≡ v → ⊥) → goes_on (graph (links_of t)) v met (l ∷ ls) ≡ false
+      pub going_elsewhere : ((link links l).from ≡ v → ⊥) → goes_on (graph links) v met (l ∷ ls) ≡ false
       unfolding goes_on
-      going_elsewhere d = simp (known_test, ne_eqb (link (links_of t) l).from v (rw (from_column t l known) d))
+      going_elsewhere d = simp (known_test, ne_eqb (link links l).from v d)
 
-      module _ (begins : get_or t.from l 0 ≡ v) where
-        begins_test : eqb (link (links_of t) l).from v ≡ true
-        begins_test = eq-eqb (link (links_of t) l).from v (from_column t l known ∙ begins)
-
-        pub going_again : member (get_or t.to l 0) met ≡ true → goes_on (graph (links_of t)) v met (l ∷ ls) ≡ false
+      module _ (begins : (link links l).from ≡ v) where
+        pub going_again : member (link links l).to met ≡ true → goes_on (graph links) v met (l ∷ ls) ≡ false
         unfolding goes_on
-        going_again e = simp (known_test, begins_test, ap (λ n. member n met) (to_column t l known) ∙ e)
+        going_again e = simp (known_test, eq-eqb (link links l).from v begins, e)
 
-        pub going_on : member (get_or t.to l 0) met ≡ false
-            → goes_on (graph (links_of t)) v met (l ∷ ls) ≡ goes_on (graph (links_of t)) (get_or t.to l 0) (get_or t.to l 0 ∷ met) ls
+        pub going_on : member (link links l).to met ≡ false → goes_on (graph links) v met (l ∷ ls) ≡ goes_on (graph links) (link links l).to ((link links l).to ∷ met) ls
         unfolding goes_on
-        going_on e = simp (known_test, begins_test, to_column t l known, e)
+        going_on e = simp (known_test, eq-eqb (link links l).from v begins, e)
 
 -- the whole path goes on if the rest does
-abbrev pub Same : LinkTable → List ℕ → ℕ → List ℕ → ℕ → Type 0
-Same t path node seen i =
-    let g = graph (links_of t) in goes_on g (first_node g path) (first_node g path ∷ []) path ≡ goes_on g node seen (drop i path)
+abbrev pub Same : List Link → List ℕ → ℕ → List ℕ → ℕ → Type 0
+Same links path node seen i =
+    let g = graph links in goes_on g (first_node g path) (first_node g path ∷ []) path ≡ goes_on g node seen (drop i path)
+
+-- the links before i go on from one to the next, `node` is where they end, and the marks are the nodes that they meet
+pub record Going (links : List Link) (path : List ℕ) (node : ℕ) (marks : List Bool) (i : ℕ) : Type 0 where
+  pub node_right : node ≤ last_node
+  pub marks_long : length marks ≡ suc last_node
+  pub seen : List ℕ
+  pub marked : Marks marks seen
+  pub same : Same links path node seen i
+
+module _ (links : List Link) (right : links_ok links ≡ true) (path : List ℕ) where
+  module _ (some : 0 < length path) (known : get_or path 0 0 < length links) where
+    abbrev pub node : ℕ
+    node = (link links (get_or path 0 0)).from
+
+    first : first_node (graph links) path ≡ node
+    first = ap (first_node (graph links)) (path_rest path 0 some)
+
+    pub going_first : Going links path node (set (replicate (suc last_node) false) node true) 0
+    going_first =
+        let h = from_node links (get_or path 0 0) right known in
+        record {
+          node_right = h;
+          marks_long = length-set (replicate (suc last_node) false) node true;
+          seen = node ∷ [];
+          marked = marks_more (replicate (suc last_node) false) [] node (omega arith) marks_none;
+          same = ap (λ v. goes_on (graph links) v (v ∷ []) path) first;
+        }
+
+  module _ (few : length path ≤ most_hops) (node : ℕ) (marks : List Bool) (i : ℕ) (g : Going links path node marks i) (here : i < length path) where
+    abbrev pub number : ℕ
+    number = get_or path i 0
+
+    -- what is left to test in a turn
+    turn : path_ok (graph links) path ≡ goes_on (graph links) node g.seen (number ∷ drop (i + 1) path)
+    turn = path_some (graph links) path (omega arith) few ∙ g.same ∙ ap (goes_on (graph links) node g.seen) (path_rest path i here)
+
+    pub stops_past : length links ≤ number → path_ok (graph links) path ≡ false
+    stops_past h = turn ∙ going_past links number node g.seen (drop (i + 1) path) h
+
+    module _ (known : number < length links) where
+      pub stops_elsewhere : ((link links number).from ≡ node → ⊥) → path_ok (graph links) path ≡ false
+      stops_elsewhere d = turn ∙ going_elsewhere links number node g.seen (drop (i + 1) path) known d
+
+      module _ (begins : (link links number).from ≡ node) where
+        abbrev pub end : ℕ
+        end = (link links number).to
+
+        was_met : get_or marks end false ≡ member end g.seen
+        was_met = g.marked end (to_node links number right known)
+
+        pub stops_again : get_or marks end false ≡ true → path_ok (graph links) path ≡ false
+        stops_again e = turn ∙ going_again links number node g.seen (drop (i + 1) path) known begins (sym was_met ∙ e)
+
+        pub goes_further : get_or marks end false ≡ false → Going links path end (set marks end true) (i + 1)
+        goes_further e =
+            let h = to_node links number right known in
+            record {
+              node_right = h;
+              marks_long = length-set marks end true ∙ g.marks_long;
+              seen = end ∷ g.seen;
+              marked = marks_more marks g.seen end (omega (arith, g.marks_long)) g.marked;
+              same = g.same ∙ ap (goes_on (graph links) node g.seen) (path_rest path i here) ∙ going_on links number node g.seen (drop (i + 1) path) known begins (sym was_met ∙ e);
+            }
+
+  pub goes_whole : 0 < length path → length path ≤ most_hops → (node : ℕ) (marks : List Bool) (i : ℕ) → Going links path node marks i → length path ≤ i → path_ok (graph links) path ≡ true
+  unfolding goes_on
+  goes_whole some few node marks i g past = path_some (graph links) path some few ∙ g.same ∙ ap (goes_on (graph links) node g.seen) (drop_of_length-le path past)

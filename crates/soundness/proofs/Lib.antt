@@ -1,4 +1,4 @@
 -- The laws that the proofs of this crate share.
 pub mod Tidy
 pub mod Going
-pub mod Checked
+pub mod Passing

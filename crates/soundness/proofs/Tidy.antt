@@ -7,8 +7,8 @@ use Prim.Native.Nat.{ℕ, zero, suc, ◌+◌, ◌-◌, ◌*◌, ◌≤◌, ◌<�
 use native.Mathlib.Numerals.{add-one}
 use native.Mathlib.Omega.{arith}
 use lib.Dec.{ltb, eqb}
-use lib.ListN.{length, get_or, take, drop, replicate, length-take, length-drop, take-append-drop, drop_of_length-le}
-use lib.Seq.{drop-cons, take_at, drop_at, length-take-le}
+use lib.ListN.{length, take, drop, replicate, length-take, length-drop, take-append-drop}
+use lib.Seq.{take_at, drop_at, length-take-le}
 use Rattle.units.specs.declared.Link.{Link}
 use Rattle.units.specs.declared.Head.{Head}
 use Rattle.units.specs.Limits.{most_hops, most_bookings, place_size}
@@ -22,19 +22,11 @@ use Rattle.rules.specs.Plain.{Booking, Plain}
 use Rattle.rules.specs.Calls.{numbers}
 use Rattle.rules.specs.Tables.{place_of, booking_of, place, booking_at, held_by, book_table, booking_ok}
 use Rattle.rules.specs.Sound.{BookingRight}
-use Rattle.soundness.specs.Checking.{zeros_from, tidy, book_ok, BookFits}
+use Rattle.soundness.specs.Checking.{all_zero, tidy, book_ok, BookFits}
 use Rattle.rules.proofs.Book.{length_place, by_number_fixed}
 use Rattle.rules.proofs.Tests.{booking_tells}
 
 -- ---- zeros
-
-pub zeros_here : (i : ℕ) (l : List ℕ) → i < length l → zeros_from i l ≡ (eqb (get_or l i 0) 0 && zeros_from (i + 1) l)
-unfolding zeros_from
-zeros_here i l h = rw add-one (ap (all (λ x. eqb x 0)) (drop-cons l i 0 h))
-
-pub zeros_past : (i : ℕ) (l : List ℕ) → length l ≤ i → zeros_from i l ≡ true
-unfolding zeros_from
-zeros_past i l h = ap (all (λ x. eqb x 0)) (drop_of_length-le l h)
 
 all_zeros_tell : (l : List ℕ) → Tells (all (λ x. eqb x 0) l) (l ≡ replicate (length l) 0)
 all_zeros_tell [] = ((λ e. refl), λ e. refl)
@@ -44,8 +36,7 @@ all_zeros_tell (x ∷ l) =
       λ e. t.1 ((cc), (cc)),
     )
 
-zeros_tell : (i : ℕ) (l : List ℕ) → Tells (zeros_from i l) (drop i l ≡ replicate (length l - i) 0)
-unfolding zeros_from
+zeros_tell : (i : ℕ) (l : List ℕ) → Tells (all_zero (drop i l)) (drop i l ≡ replicate (length l - i) 0)
 zeros_tell i l = subst (λ n. Tells (all (λ x. eqb x 0) (drop i l)) (drop i l ≡ replicate n 0)) (length-drop i l) (all_zeros_tell (drop i l))
 
 -- ---- a place
@@ -88,7 +79,7 @@ module _ (b : Place) (sized : length b.links ≡ most_hops) where
 module _ (links : List Link) (p : Plain) (book : List ℕ) where
   -- the n places from i on obey the rules, the first of them with a number above `last`, and the figures behind them are zero
   unfoldable pub right_from : ℕ → ℕ → ℕ → Bool
-  right_from last i zero = zeros_from (i * place_size) book
+  right_from last i zero = all_zero (drop (i * place_size) book)
   right_from last i (suc n) = ltb last (booking_at book i).number && tidy (booking_in book i) && booking_ok links p (booking_at book i) && right_from (booking_at book i).number (suc i) n
 
   -- one place of the n
@@ -97,7 +88,7 @@ module _ (links : List Link) (p : Plain) (book : List ℕ) where
   unfolding right_from
   right_here last i n h = let e : n - i ≡ suc (n - (i + 1)) = omega arith in ap (right_from last i) e ∙ ap (λ j. ltb last (booking_at book i).number && tidy (booking_in book i) && booking_ok links p (booking_at book i) && right_from (booking_at book i).number j (n - (i + 1))) (sym (add-one i))
 
-  pub right_past : (last i n : ℕ) → i ≡ n → right_from last i (n - i) ≡ zeros_from (n * place_size) book
+  pub right_past : (last i n : ℕ) → i ≡ n → right_from last i (n - i) ≡ all_zero (drop (n * place_size) book)
   unfolding right_from
   right_past last i n e = let z : n - i ≡ 0 = omega arith in ap₂ (right_from last) e z
 

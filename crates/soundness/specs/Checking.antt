@@ -1,23 +1,21 @@
 -- What the parts of the soundness check answer: of a place, of a book, and of the figures that they give.
-use Rattle.std.specs.Prelude.{◌≡◌, List, Bool, true, ◌&&◌, ℕ, ◌*◌, ◌≤◌, leb, eqb, length, drop}
+use Rattle.std.specs.Prelude.{◌≡◌, List, Bool, ◌&&◌, ℕ, ◌*◌, ◌≤◌, leb, eqb, length, drop}
 use Rattle.units.specs.declared.Link.{Link}
-use Rattle.units.specs.Limits.{most_links, most_hops, most_bookings, place_size}
+use Rattle.units.specs.Limits.{most_hops, most_bookings, place_size}
 use Rattle.units.specs.Lists.{equal, rising, all}
 use Rattle.book.specs.declared.Booking.{Booking as Place}
-use Rattle.units.specs.declared.LinkTable.{LinkTable}
 use Rattle.rules.specs.Plain.{Plain}
 use Rattle.rules.specs.Calls.{numbers}
-use Rattle.rules.specs.Tables.{links_ok, booking_ok, book_table, event_table, free_table}
-use Rattle.units.specs.LinkTables.{links_of}
+use Rattle.rules.specs.Tables.{booking_ok, book_table, event_table, free_table}
 use Rattle.rules.specs.Desk.{NotOversold}
 
--- every figure from a place on is zero
-unfoldable pub zeros_from : ℕ → List ℕ → Bool
-zeros_from from figures = all (λ x. eqb x 0) (drop from figures)
+-- every figure is zero
+abbrev pub all_zero : List ℕ → Bool
+all_zero figures = all (λ x. eqb x 0) figures
 
 -- document 01's 'a path is thirty-one places, those past its last link zero'
 unfoldable pub tidy : Place → Bool
-tidy b = leb b.count most_hops && zeros_from b.count b.links
+tidy b = leb b.count most_hops && all_zero (drop b.count b.links)
 
 -- document 01's rules for a book that holds p, and that it is written as they say
 unfoldable pub book_ok : List Link → List ℕ → Plain → Bool
@@ -28,11 +26,6 @@ pub record FiguresRight (links : List Link) (p : Plain) (events free : List ℕ)
   pub not_oversold : NotOversold links p
   pub events_are : events ≡ event_table p
   pub free_are : free ≡ free_table links p
-
--- links that obey document 01's rules, 64 of them at most
-pub record LinksRight (links : LinkTable) : Type 0 where
-  pub few : links.count ≤ most_links
-  pub all_ok : links_ok (links_of links) ≡ true
 
 -- a book of document 01's size, of which n places are used
 pub record BookFits (book : List ℕ) (n : ℕ) : Type 0 where

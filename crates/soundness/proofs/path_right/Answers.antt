@@ -1,150 +1,49 @@
--- `path_right` meets its contract: the links before i go on from one to the next, `node` is where they end, and `met` marks
--- the nodes that they meet.
-use mathlib.Core.Path.{◌≡◌, sym, ap, ◌∙◌}
-use mathlib.Core.List.{[], ◌∷◌}
-use mathlib.Core.Bool.{true, false}
-use Prim.Native.Nat.{suc, ◌+◌, ◌≤◌}
-use native.Mathlib.Omega.{arith}
-use borrow.Author.Rules.{rules}
-use lib.ListN.{length, get_or, take, drop, replicate, length-set, drop_of_length-le}
-use lib.Seq.{length-take-le}
-use Rattle.units.specs.Limits.{last_node, most_hops}
-use Rattle.path_search.specs.Paths.{goes_on, first_node, path_ok}
+-- `path_right` meets its contract: each way out is decided by the first link that does not go on.
+use Rattle.std.proofs.Common.{sym, ap, ◌∙◌, ◌<◌, ◌≤◌, arith, length}
+use Rattle.std.proofs.lemmas.Bool.Decides.{nat_tests}
+use lib.ListN.{length-take}
+use Rattle.path_search.specs.Paths.{goes_on}
 use Rattle.rules.specs.Plain.{graph}
-use Rattle.units.specs.LinkTables.{links_of}
-use Rattle.rules.proofs.LinkColumns.{from_column}
-use Rattle.soundness.proofs.Going.{marks_none, marks_more, path_none, path_some, path_rest, from_node, to_node, going_past, going_elsewhere, going_again, going_on}
+use Rattle.units.specs.Limits.{most_hops}
+use Rattle.rebuild.specs.Rebuilding.{place_path}
+use Rattle.soundness.proofs.Going.{path_some, path_rest, going_past, going_first, stops_past, stops_elsewhere, stops_again, goes_further, goes_whole}
 use Rattle.soundness.proofs.path_right.Goals as goal
-use Rattle.soundness.proofs.path_right.Goals.{Else-links-link, In-loop-i, Start}
+use Rattle.soundness.proofs.path_right.Goals.{Else-is_empty, Start, then-link-node-via-then-link-node, then-link-node-via-else-link-node+then-met-link}
 
--- the type says that a path has 31 places, so as many of them are links as the count says
-places : (s : Start) → length s.args.booking.links ≡ most_hops
-places s = search rules
+few : (c : Start) → length (place_path c.args.booking) ≤ most_hops
+few c = omega (arith, length-take c.args.booking.count c.args.booking.links, c.requires)
 
-path_length : (s : Start) → length (take s.args.booking.count s.args.booking.links) ≡ s.args.booking.count
-path_length s = length-take-le s.args.booking.count s.args.booking.links (omega (arith, places s, s.requires.count_bound))
-
--- what is left to test in a turn
-turn : (c : In-loop-i) →
-    let s = c.args in
-    let l = c.loop-i in
-    path_ok (graph (links_of s.links)) (take s.booking.count s.booking.links)
-    ≡ goes_on (graph (links_of s.links)) l.node l.invariant.3 (get_or s.booking.links l.i 0 ∷ drop (l.i + 1) (take s.booking.count s.booking.links))
-turn c =
-    let b = c.args.booking in
-    let l = c.loop-i in
-    let g = graph (links_of c.args.links) in
-    let path = take b.count b.links in
-    let long_places : length c.args.booking.links ≡ most_hops = search rules in
-    let long : length (take c.args.booking.count c.args.booking.links) ≡ c.args.booking.count = length-take-le c.args.booking.count c.args.booking.links (omega (arith, long_places, c.requires.count_bound)) in
-    path_some g path (omega arith) (omega arith) ∙ l.invariant.5 ∙ ap (goes_on g l.node l.invariant.3) (path_rest b.links b.count l.i (omega arith) (omega (arith, long_places)))
-
--- the node where the next link ends
-next_node : (c : Else-links-link) →
-    let s = c.args in get_or s.links.to (get_or s.booking.links c.loop-i.i 0) 0 ≤ last_node
-next_node c =
-    to_node c.args.links (get_or c.args.booking.links c.loop-i.i 0) c.requires.links_right c.if-links-link.false
-
-pub returns-then-count-lt1 : goal.returns-then-count-lt1
-returns-then-count-lt1 c =
-    let b = c.args.booking in
-    let long = path_length (goal.at.returns-then-count-lt1 c).Start in
-    sym (path_none (graph (links_of c.args.links)) (take b.count b.links) (omega arith))
+some : (c : Else-is_empty) → 0 < length (place_path c.args.booking)
+some c = grind (arith, nat_tests, c.is_empty.ensures, c.if-is_empty.false)
 
 pub returns-then-links-first : goal.returns-then-links-first
 returns-then-links-first c =
-    let t = c.args.links in
-    let b = c.args.booking in
-    let g = graph (links_of t) in
-    let path = take b.count b.links in
-    let v = first_node g path in
-    let long = path_length (goal.at.returns-then-links-first c).Start in
-    sym (path_some g path (omega arith) (omega arith)
-    ∙ ap (goes_on g v (v ∷ [])) (path_rest b.links b.count 0 (omega arith) (omega (arith, places (goal.at.returns-then-links-first c).Start)))
-    ∙ going_past t (get_or b.links 0 0) v (v ∷ []) (drop 1 path) c.if-links-first.true)
+    let at = goal.at.returns-then-links-first c in
+    let links = c.args.links.links.now in
+    let path = place_path c.args.booking in
+    sym (path_some (graph links) path (some at.Else-is_empty) (few at.Start) ∙ ap (goes_on (graph links) _ _) (path_rest path 0 (some at.Else-is_empty)) ∙ going_past links _ _ _ _ c.if-links-first.true)
 
-pub bounds-met-node : goal.bounds-met-node
-bounds-met-node c =
-    let l = get_or c.args.booking.links 0 0 in
-    let h = from_node c.args.links l c.requires.links_right c.if-links-first.false in
-    omega arith
+pub loop-number-init : goal.loop-number-init
+loop-number-init c = going_first c.args.links.links.now c.args.links.right _ (some (goal.at.loop-number-init c).Else-is_empty) c.if-links-first.false
 
-pub loop-i-init : goal.loop-i-init
-loop-i-init c =
-    let t = c.args.links in
-    let b = c.args.booking in
-    let g = graph (links_of t) in
-    let path = take b.count b.links in
-    let known = c.if-links-first.false in
-    let l = get_or b.links 0 0 in
-    let node = get_or t.from l 0 in
-    let h = from_node t l c.requires.links_right known in
-    let first : first_node g path ≡ node = ap (first_node g) (path_rest b.links b.count 0 (omega arith) (omega (arith, places (goal.at.loop-i-init c).Start))) ∙ from_column t l known in
-    (omega arith, h, length-set (replicate (suc last_node) false) node true, node ∷ [], marks_more (replicate (suc last_node) false) [] node (omega arith) marks_none, ap (λ v. goes_on g v (v ∷ []) path) first)
+pub returns-then-links-number : goal.returns-then-links-number
+returns-then-links-number c =
+    sym (stops_past _ c.args.links.right _ (few (goal.at.returns-then-links-number c).Start) _ _ _ c.loop-number.invariant c.loop-number-test.true c.if-links-number.true)
 
-pub returns-then-links-link : goal.returns-then-links-link
-returns-then-links-link c =
-    let l = c.loop-i in
-    let s = c.args in
-    sym (turn (goal.at.returns-then-links-link c).In-loop-i ∙ going_past s.links (get_or s.booking.links l.i 0) l.node l.invariant.3 (drop (l.i + 1) (take s.booking.count s.booking.links)) c.if-links-link.true)
+pub returns-then-link-node : goal.returns-then-link-node
+returns-then-link-node c =
+    let least = few (goal.at.returns-then-link-node c).Start in
+    elim c.then-link-node.branch [
+      | then-link-node-via-then-link-node w ↦ sym (stops_elsewhere _ c.args.links.right _ least _ _ _ c.loop-number.invariant c.loop-number-test.true c.if-links-number.false w.if-link-node.true)
+      | then-link-node-via-else-link-node+then-met-link w ↦
+          sym (stops_again _ c.args.links.right _ least _ _ _ c.loop-number.invariant c.loop-number-test.true c.if-links-number.false w.if-link-node.false w.if-met-link.true)
+    ]
 
-pub overflow_cast-links : goal.overflow_cast-links
-overflow_cast-links c =
-    let h = from_node c.args.links (get_or c.args.booking.links c.loop-i.i 0) c.requires.links_right c.if-links-link.false in
-    record { fits = omega arith }
-
-pub returns-then-links-link-2 : goal.returns-then-links-link-2
-returns-then-links-link-2 c =
-    let l = c.loop-i in
-    let s = c.args in
-    sym (turn (goal.at.returns-then-links-link-2 c).In-loop-i
-    ∙ going_elsewhere s.links (get_or s.booking.links l.i 0) l.node l.invariant.3 (drop (l.i + 1) (take s.booking.count s.booking.links)) c.if-links-link.false c.if-links-link-2.true)
-
-pub overflow_cast-node-in-loop-i : goal.overflow_cast-node-in-loop-i
-overflow_cast-node-in-loop-i c = let h = next_node (goal.at.overflow_cast-node-in-loop-i c).Else-links-link in record { fits = omega arith }
-
-pub bounds-met-node-in-loop-i : goal.bounds-met-node-in-loop-i
-bounds-met-node-in-loop-i c = let h = next_node (goal.at.bounds-met-node-in-loop-i c).Else-links-link in omega arith
-
-pub returns-then-met-node : goal.returns-then-met-node
-returns-then-met-node c =
-    let l = c.loop-i in
-    let s = c.args in
-    let link = get_or s.booking.links l.i 0 in
-    let node = get_or s.links.to link 0 in
-    sym (turn (goal.at.returns-then-met-node c).In-loop-i
-    ∙ going_again s.links link l.node l.invariant.3 (drop (l.i + 1) (take s.booking.count s.booking.links)) c.if-links-link.false c.if-links-link-2.false
-    (sym (l.invariant.4 node (next_node (goal.at.returns-then-met-node c).Else-links-link)) ∙ c.if-met-node.true))
-
-pub bounds-met-node-in-loop-i-2 : goal.bounds-met-node-in-loop-i-2
-bounds-met-node-in-loop-i-2 c = let h = next_node (goal.at.bounds-met-node-in-loop-i-2 c).Else-links-link in omega arith
-
-pub loop-i-preserved : goal.loop-i-preserved
-loop-i-preserved c =
-    let l = c.loop-i in
-    let s = c.args in
-    let links = s.booking.links in
-    let count = s.booking.count in
-    let link = get_or links l.i 0 in
-    let node = get_or s.links.to link 0 in
-    let h = next_node (goal.at.loop-i-preserved c).Else-links-link in (
-      omega arith,
-      h,
-      length-set l.met node true ∙ l.invariant.2,
-      node ∷ l.invariant.3,
-      marks_more l.met l.invariant.3 node (omega arith) l.invariant.4,
-      l.invariant.5
-          ∙ ap (goes_on (graph (links_of s.links)) l.node l.invariant.3) (path_rest links count l.i (omega arith) (omega (arith, places (goal.at.loop-i-preserved c).Start, c.requires.count_bound)))
-          ∙ going_on s.links link l.node l.invariant.3 (drop (l.i + 1) (take count links)) c.if-links-link.false c.if-links-link-2.false
-          (sym (l.invariant.4 node h) ∙ c.if-met-node.false),
-    )
+pub loop-number-preserved : goal.loop-number-preserved
+loop-number-preserved c =
+    goes_further _ c.args.links.right _ (few (goal.at.loop-number-preserved c).Start) _ _ _ c.loop-number.invariant c.loop-number-test.true c.if-links-number.false c.if-link-node.false c.if-met-link.false
 
 pub returns : goal.returns
-unfolding goes_on
 returns c =
-    let l = c.loop-i in
-    let b = c.args.booking in
-    let g = graph (links_of c.args.links) in
-    let path = take b.count b.links in
-    let long = path_length (goal.at.returns c).Start in
-    sym (path_some g path (omega arith) (omega arith) ∙ l.invariant.5 ∙ ap (goes_on g l.node l.invariant.3) (drop_of_length-le path {i = l.i} (omega arith)))
+    let at = goal.at.returns c in
+    sym (goes_whole _ c.args.links.right _ (some at.Else-is_empty) (few at.Start) _ _ _ c.loop-number.invariant c.loop-number-test.false)
