@@ -2,30 +2,13 @@
 use mathlib.Core.Path.{◌≡◌, refl, sym, ◌∙◌, ap}
 use mathlib.Core.List.{List}
 use mathlib.Core.Bool.{Bool, true, false}
-use Prim.Native.Nat.{ℕ, ◌*◌, ◌≤◌}
+use Prim.Native.Nat.{ℕ}
 use native.Mathlib.Omega.{arith}
-use lib.ListN.{length}
 use Rattle.units.specs.declared.Link.{Link}
-use Rattle.units.specs.declared.Head.{Head}
-use Rattle.units.specs.Limits.{most_links, most_bookings, most_events, place_size}
-use Rattle.units.proofs.Tests.{◌&◌, in_range, equals}
-use Rattle.units.specs.declared.LinkTable.{LinkTable}
 use Rattle.rules.specs.Calls.{Ask, ask, checked, first_refusal, list_fits}
-use Rattle.rules.specs.Tables.{Tables, sizes_ok, sized, sound, lent_checks, lent, Fine}
+use Rattle.rules.specs.Tables.{Tables, sized, sound, lent_checks, Fine}
 use Rattle.rules.specs.Desk.{outcome}
-use Rattle.units.specs.LinkTables.{links_of}
-use Rattle.rules.proofs.LinkColumns.{links_count}
 use Rattle.rules.proofs.Exits.{refused_with, unsized, list_unfit, unsound}
-
-module _ (links : LinkTable) (head : Head) (events free places : List ℕ) where
-  -- sizes by the count of the columns
-  pub sizes_same : sized (links_of links) (lent head events free places) ≡ sizes_ok links.count (length events) (length free) (length places)
-  sizes_same = ap (λ n. sizes_ok n (length events) (length free) (length places)) (links_count links)
-
--- sizes that are right: not too many links
-pub few_links : (links events free places : ℕ) → sizes_ok links events free places ≡ true → links ≤ most_links
-few_links links events free places e =
-    ((in_range 1 most_links links & equals events most_events & equals free (most_events * most_links) & equals places (most_bookings * place_size)).0 e).0.0.0.1
 
 module _ (links : List Link) (t : Tables) where
   -- by whether a lent list fits
