@@ -1,37 +1,32 @@
 -- The tables after an accepted call: all written anew from the book table of the plain book after it, one booking added to
 -- sound tables, or none at all. Each piece has its law below; here they are put together.
-use mathlib.Core.Path.{◌≡◌, refl, sym, ap, ap₂, ◌∙◌}
+use mathlib.Core.Path.{◌≡◌, refl, ap, ap₂, ◌∙◌}
 use mathlib.Core.List.{List, flatten}
 use mathlib.Core.Bool.{Bool}
 use Prim.Native.Nat.{ℕ, ◌+◌, ◌*◌, ◌≤◌, ◌<◌}
 use native.Mathlib.Omega.{arith}
-use lib.ListN.{length, take, replicate}
+use lib.ListN.{length, take, replicate, length-replicate}
 use Rattle.units.specs.declared.Link.{Link}
 use Rattle.units.specs.declared.Head.{Head}
 use Rattle.units.specs.declared.Minute.{Minute}
 use Rattle.units.specs.declared.Request.{Request}
-use Rattle.units.specs.Limits.{most_links, most_bookings, most_events, most_hops, place_size}
+use Rattle.units.specs.Limits.{most_bookings, most_hops, place_size}
 use Rattle.units.specs.Lists.{count_from}
-use Rattle.timeline.specs.EventTable.{only_clock}
 use Rattle.timeline.specs.Insertion.{Room}
-use Rattle.free_table.specs.Figures.{all_free}
 use Rattle.path_search.specs.declared.Path.{Path}
 use Rattle.places.specs.Places.{slot}
 use Rattle.book.specs.declared.Booking.{Booking as Place}
 use Rattle.book.specs.Places.{figures, with_booking}
-use Rattle.units.specs.declared.LinkTable.{LinkTable}
 use Rattle.plain_book.specs.Bookings as plain-book
 use Rattle.rules.specs.Plain.{Plain, empty}
 use Rattle.rules.specs.Calls.{put_in}
 use Rattle.rules.specs.Tables.{Tables, tables, held, place, head_of, held_by, event_table, free_table, book_table, lent, Fine}
 use Rattle.rules.specs.Sound.{Obeys}
-use Rattle.units.specs.LinkTables.{links_of}
 use Rattle.rebuild.specs.Rebuilding.{release_of, PlaceRight, CanRebuild}
 use Rattle.changes.specs.Updating.{with_count, booked, Grantable}
 use Rattle.rules.proofs.Obeys.{held_count, right_in}
-use Rattle.rules.proofs.LinkColumns.{links_count}
+use Rattle.rules.proofs.Tests.{Sized}
 use Rattle.rebuild.proofs.Added.{CanAdd, Adds, add_asks, added}
-use Rattle.rebuild.proofs.Rebuilt.{rebuilt_none}
 use Rattle.rebuild.proofs.RebuiltBook.{can_rebuild, events_anew, free_anew}
 use Rattle.changes.proofs.InOrder.{slot_inside, book_entered}
 use Rattle.rules.proofs.Fine.{sizes, links_are, events_are, free_are}
@@ -49,33 +44,43 @@ head_is links p a b c = λ i. record { clock = record { 0 = a i }; links = b i; 
 abbrev pub head_with : ℕ → ℕ → ℕ → Head
 head_with clock links bookings = record { clock = record { 0 = clock }; links = links; bookings = bookings }
 
--- ---- none
-
-module _ (columns : LinkTable) (few : columns.count ≤ most_links) (given : columns.count ≤ length columns.capacity) where
-  pub reset_tables : {es t book : List ℕ} → es ≡ only_clock most_events 0 → t ≡ all_free (most_events * most_links) columns.count columns.capacity → book ≡ replicate (most_bookings * place_size) 0
-      → lent (head_with 0 columns.count 0) es t book ≡ tables (links_of columns) empty
-  unfolding count_from flatten plain-book.by_number
-  reset_tables {es} {t} a b c =
-      let r = rebuilt_none columns (head_with 0 columns.count 0) t few given es t a b in
-      tables_are (links_of columns) empty (ap (λ n. head_with 0 n 0) (sym (links_count columns))) r.events_are r.free_are c
-
 -- ---- all anew
 
--- sound tables, and the book table of the plain book after the call with its count
-module _ (columns : LinkTable) {t : Tables} (fine : Fine (links_of columns) t) {p : Plain} (o : Obeys (links_of columns) p) {head : Head} {book : List ℕ} (is_head : head ≡ head_of (links_of columns) p) (is_book : book ≡ book_table p) where
+-- tables of the right sizes, and the book table of a plain book with its count
+module _ {links : List Link} {t : Tables} (right : Sized links t) {p : Plain} (o : Obeys links p) {head : Head} {book : List ℕ} (is_head : head ≡ head_of links p) (is_book : book ≡ book_table p) where
   -- what `rebuild` asks
-  pub anew_asks : CanRebuild columns head book t.events t.free
-  anew_asks =
-      let right = sizes fine in
-      rw (is_head, is_book) (can_rebuild columns p o (rw links_count at right.links_right) t.events t.free right.events_right right.free_right)
+  pub anew_asks : CanRebuild links head book t.events t.free
+  anew_asks = rw (is_head, is_book) (can_rebuild links p o right.links_right t.events t.free right.events_right right.free_right)
 
   -- and the tables with what it gives
-  pub anew_tables : {es' t' : List ℕ} → es' ≡ event_table (held_by head book) → t' ≡ free_table (links_of columns) (held_by head book) → lent head es' t' book ≡ tables (links_of columns) p
+  pub anew_tables : {es' t' : List ℕ} → es' ≡ event_table (held_by head book) → t' ≡ free_table links (held_by head book) → lent head es' t' book ≡ tables links p
   anew_tables a b =
-      tables_are (links_of columns) p is_head
-      (a ∙ ap₂ (λ h x. event_table (held_by h x)) is_head is_book ∙ events_anew columns p o)
-      (b ∙ ap₂ (λ h x. free_table (links_of columns) (held_by h x)) is_head is_book ∙ free_anew columns p o)
+      tables_are links p is_head
+      (a ∙ ap₂ (λ h x. event_table (held_by h x)) is_head is_book ∙ events_anew links p o)
+      (b ∙ ap₂ (λ h x. free_table links (held_by h x)) is_head is_book ∙ free_anew links p o)
       is_book
+
+-- ---- none
+
+module _ {links : List Link} {t : Tables} (right : Sized links t) {book : List ℕ} (is_book : book ≡ replicate (most_bookings * place_size) 0) where
+  -- what `rebuild` asks
+  pub bare_asks : CanRebuild links (head_with 0 (length links) 0) book t.events t.free
+  unfolding count_from
+  bare_asks = record {
+    few_links = right.links_right.1;
+    events_sized = right.events_right;
+    free_sized = right.free_right;
+    book_sized = ap length is_book ∙ length-replicate {A = ℕ} (most_bookings * place_size) 0;
+    few_bookings = omega arith;
+    counts_right = λ i h. absurd (omega arith);
+    bookings_right = tt;
+  }
+
+  -- and the tables with what it gives
+  pub bare_tables : {es' t' : List ℕ} → es' ≡ event_table (held_by (head_with 0 (length links) 0) book) → t' ≡ free_table links (held_by (head_with 0 (length links) 0) book)
+      → lent (head_with 0 (length links) 0) es' t' book ≡ tables links empty
+  unfolding count_from flatten plain-book.by_number
+  bare_tables a b = tables_are links empty refl a b is_book
 
 -- ---- one booking more
 

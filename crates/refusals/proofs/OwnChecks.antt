@@ -16,15 +16,7 @@ use Rattle.rules.specs.Plain.{Plain, low}
 use Rattle.rules.specs.Tables.{held_by}
 use Rattle.rules.proofs.Standing.{count_read}
 
--- a number in range: where an offer is stopped, so is the booking, by the same number
-pub stopped_alike : (fields window : Bool) (behind : List Check) → (first_refusal (check 4 fields ∷ check 5 window ∷ []) ≡ 0 → ⊥)
-    → first_refusal (check 4 (true && fields) ∷ check 5 window ∷ behind) ≡ first_refusal (check 4 fields ∷ check 5 window ∷ [])
-unfolding checked
-stopped_alike true true behind h = absurd (h refl)
-stopped_alike true false behind h = refl
-stopped_alike false window behind h = refl
-
--- and where it is not, the book decides
+-- a number in range: where an offer is not stopped, the book decides
 pub left_to_book : (fields window : Bool) (behind : List Check) → first_refusal (check 4 fields ∷ check 5 window ∷ []) ≡ 0
     → first_refusal (check 4 (true && fields) ∷ check 5 window ∷ behind) ≡ first_refusal behind
 unfolding checked
@@ -52,9 +44,6 @@ module _ (head : Head) (places : List ℕ) (number : ℕ) (request : Request) (i
   -- what the book decides
   abbrev behind : List Check
   behind = check 6 (not (stands number (held_by head places).bookings)) ∷ check 7 (ltb (length (held_by head places).bookings) most_bookings) ∷ []
-
-  pub stopped_as_offer : (as_offer ≡ 0 → ⊥) → as_booking ≡ as_offer
-  stopped_as_offer h = rw in_range (stopped_alike (request_ok request) in_window behind h)
 
   module _ (passes : as_offer ≡ 0) where
     pub number_stands : stands number (held_by head places).bookings ≡ true → as_booking ≡ 6

@@ -32,23 +32,6 @@ module _ (links : List Link) (t : Tables) where
     unfolding checked
     says_0 s f e = rw (s, f, e)
 
-    -- the sizes alone decide whether it is 1
-    pub size_refused : lent_refusal ≡ 1 → sized links t ≡ false
-    size_refused q = by (sized links t) fits (sound links t) refl refl refl
-      where
-        by : (x y z : Bool) → sized links t ≡ x → fits ≡ y → sound links t ≡ z → sized links t ≡ false
-        by true true true s f e = absurd (let z : ◌≡◌ {A = ℕ} 0 1 = sym (says_0 s f e) ∙ q in omega arith)
-        by true true false s f e = absurd (let z : ◌≡◌ {A = ℕ} 3 1 = sym (says_3 s f e) ∙ q in omega arith)
-        by true false z s f e = absurd (let z : ◌≡◌ {A = ℕ} 13 1 = sym (says_13 s f) ∙ q in omega arith)
-        by false y z s f e = s
-
-    pub size_passed : (lent_refusal ≡ 1 → ⊥) → sized links t ≡ true
-    size_passed n = by (sized links t) refl
-      where
-        by : (x : Bool) → sized links t ≡ x → sized links t ≡ true
-        by true s = s
-        by false s = absurd (n (says_1 s))
-
     -- passed: the tables are fine, and the list fits
     all_fine : lent_refusal ≡ 0 → Fine links t × (fits ≡ true)
     all_fine q = by (sized links t) fits (sound links t) refl refl refl

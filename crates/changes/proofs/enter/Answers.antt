@@ -1,28 +1,24 @@
 -- `enter` meets its contract: the booking is put in at the place of its number, and added to the events and the figures.
-use mathlib.Core.Path.{ap, ◌∙◌}
-use native.Mathlib.Omega.{arith}
+use Rattle.std.proofs.Common.{ap, ◌∙◌, arith}
 use Rattle.book.specs.Places.{with_booking}
 use Rattle.rules.proofs.Fine.{sizes, few_bookings}
 use Rattle.changes.proofs.Written.{granted_place, enter_asks, grant_asks, entered_tables}
 use Rattle.changes.proofs.enter.Goals as goal
 
 pub slot-place-requires : goal.slot-place-requires
-slot-place-requires c =
-    omega (arith, few_bookings c.requires.fine, (sizes c.requires.fine).book_right)
+slot-place-requires c = omega (arith, few_bookings c.requires.fine, (sizes c.requires.fine).book_right)
 
 pub insert_booking-requires : goal.insert_booking-requires
-insert_booking-requires c =
-    omega (arith, c.slot-place.ensures, enter_asks c.requires.fine c.requires.grantable, (sizes c.requires.fine).book_right)
+insert_booking-requires c = omega (arith, c.slot-place.ensures, enter_asks c.requires.fine c.requires.grantable, (sizes c.requires.fine).book_right)
 
 pub add_booking-requires : goal.add_booking-requires
-add_booking-requires c =
-    let h = grant_asks c.requires.fine c.requires.grantable in record { room = h.0; place_right = h.1 }
+add_booking-requires c = let h = grant_asks c.requires.fine c.requires.grantable in record { room = h.0; place_right = h.1 }
 
-pub overflow_add-after : goal.overflow_add-after
-overflow_add-after c = omega (arith, few_bookings c.requires.fine)
+pub overflow_add-head : goal.overflow_add-head
+overflow_add-head c = omega (arith, few_bookings c.requires.fine)
 
-pub returns : goal.returns
-returns c =
+pub returns-clause-tables : goal.returns-clause-tables
+returns-clause-tables c =
     let a = c.args in
     entered_tables c.requires.fine c.requires.grantable c.add_booking.ensures
-    (c.insert_booking.ensures ∙ ap (λ i. with_booking i (granted_place a.number a.request a.start a.path) a.book.now) c.slot-place.ensures)
+    (c.insert_booking.ensures ∙ ap (λ i. with_booking i (granted_place a.number a.request a.start a.path) a.desk.now.book.now) c.slot-place.ensures)

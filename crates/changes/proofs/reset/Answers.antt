@@ -1,40 +1,20 @@
--- `reset` meets its contract: the clock alone, the capacities and no booking are the tables of the empty book.
-use mathlib.Core.Path.{ap, ◌∙◌}
-use Prim.Native.Nat.{◌-◌, ◌≤◌}
-use native.Mathlib.Omega.{arith}
-use lib.ListN.{length, replicate}
-use Rattle.units.specs.Limits.{most_links}
-use Rattle.units.specs.LinkTables.{links_of}
-use Rattle.timeline.specs.EventTable.{only_clock}
-use Rattle.free_table.specs.Figures.{all_free}
-use Rattle.rules.specs.Tables.{lent}
+-- `reset` meets its contract: what is rebuilt from no booking are the tables of the empty book.
+use Rattle.std.proofs.Common.{◌≡◌, ap, ◌∙◌, ◌*◌, replicate}
+use Rattle.units.specs.Limits.{most_bookings, place_size}
+use Rattle.lent.specs.Lent.{tables_of}
 use Rattle.rules.proofs.Tests.{Sized, sized_tells}
-use Rattle.rules.proofs.LinkColumns.{links_count, capacities_long}
-use Rattle.changes.proofs.Written.{head_with, reset_tables}
+use Rattle.changes.proofs.Written.{bare_asks, bare_tables}
 use Rattle.changes.proofs.reset.Goals as goal
-use Rattle.changes.proofs.reset.Goals.{Start}
+use Rattle.changes.proofs.reset.Goals.{After-fill, Start}
 
--- the sizes
-right : (s : Start) → Sized (links_of s.args.links) (lent (head_with 0 0 0) s.args.events.now s.args.free.now s.args.book.now)
-right s = (sized_tells (links_of s.args.links) (lent (head_with 0 0 0) s.args.events.now s.args.free.now s.args.book.now)).0 (rw links_count s.requires)
+right : (s : Start) → let d = s.args.desk.now in Sized d.links.now (tables_of d)
+right s = let d = s.args.desk.now in (sized_tells d.links.now (tables_of d)).0 s.requires
 
-few : (s : Start) → s.args.links.count ≤ most_links
-few s = rw links_count at (right s).links_right.1
+is_book : (c : After-fill) → c.fill.new.self ≡ replicate (most_bookings * place_size) 0
+is_book c = let d = c.args.desk.now in c.fill.ensures.after (λ y same. same) ∙ ap (λ n. replicate n 0) ((sized_tells d.links.now (tables_of d)).0 c.requires).book_right
 
-given : (s : Start) → s.args.links.count ≤ length s.args.links.capacity
-given s = omega (arith, capacities_long s.args.links s.well_formed.0, few s)
+pub rebuild-requires : goal.rebuild-requires
+rebuild-requires c = let at = goal.at.rebuild-requires c in bare_asks (right at.Start) (is_book at.After-fill)
 
-pub reset_events-requires : goal.reset_events-requires
-reset_events-requires c = omega (arith, (right (goal.at.reset_events-requires c).Start).events_right)
-
-pub reset_free-requires : goal.reset_free-requires
-reset_free-requires c = record { fits = omega (arith, (right (goal.at.reset_free-requires c).Start).free_right, few (goal.at.reset_free-requires c).Start); given = given (goal.at.reset_free-requires c).Start }
-
-pub overflow_cast-result : goal.overflow_cast-result
-overflow_cast-result c = omega (arith, few (goal.at.overflow_cast-result c).Start)
-
-pub returns : goal.returns
-returns c =
-    reset_tables c.args.links (few (goal.at.returns c).Start) (given (goal.at.returns c).Start) (c.reset_events.ensures ∙ ap (λ n. only_clock n 0) (right (goal.at.returns c).Start).events_right)
-    (c.reset_free.ensures ∙ ap (λ n. all_free n c.args.links.count c.args.links.capacity) (right (goal.at.returns c).Start).free_right)
-    (c.clear_from.ensures ∙ ap (λ n. replicate (n - 0) 0) (right (goal.at.returns c).Start).book_right)
+pub returns-clause-tables : goal.returns-clause-tables
+returns-clause-tables c = let at = goal.at.returns-clause-tables c in bare_tables (right at.Start) (is_book at.After-fill) c.rebuild.ensures.0 c.rebuild.ensures.1
