@@ -8,10 +8,11 @@ use native.Mathlib.Omega.{arith}
 use lib.Dec.{eqb}
 use lib.ListN.{length}
 use borrow.Author.Tests.{eqb-true, eq-eqb, ne_eqb}
+use Rattle.std.specs.Prelude.{is_ok}
 use Rattle.units.specs.declared.Link.{Link}
 use Rattle.layout.specs.declared.OrderForm.{OrderForm}
 use Rattle.layout.specs.Layout.{pack, fits, spelled, order_widths, link_widths}
-use Rattle.layout.specs.Records.{if_passed, order_from, is_order}
+use Rattle.layout.specs.Records.{if_passed, order_from}
 use Rattle.layout.specs.Forms.{tellable, form_fields, order_figures, form_fits, order_refusal, order_written, link_figures, link_refusal, link_written}
 
 -- no refusal behind a test: it passes, and nothing behind it refuses
@@ -23,7 +24,7 @@ passed false x k n e = absurd (n e)
 -- is read back
 pub record Writable (count : ℕ) (form : OrderForm) : Type 0 where
   pub sized : count ≡ 16
-  pub known : is_order (order_from (form_fields form)) ≡ true
+  pub known : is_ok (order_from (form_fields form)) ≡ true
   pub room : fits order_widths (order_figures (form_fields form)) ≡ true
   pub told : tellable form.wish.latest ≡ true
 
@@ -31,7 +32,7 @@ pub writable : (count : ℕ) (form : OrderForm) → order_refusal count form ≡
 unfolding order_refusal form_fits
 writable count form e =
     let a = passed (eqb count 16) _ 12 (λ z. omega arith) e in
-    let b = passed (is_order (order_from (form_fields form))) _ 11 (λ z. omega arith) a.1 in
+    let b = passed (is_ok (order_from (form_fields form))) _ 11 (λ z. omega arith) a.1 in
     let c = passed (form_fits form) 0 4 (λ z. omega arith) b.1 in
     let d = (and-eq-true_iff (fits order_widths (order_figures (form_fields form))) (tellable form.wish.latest)).0 c.0 in
     record { sized = eqb-true count 16 a.0; known = b.0; room = d.0; told = d.1 }
