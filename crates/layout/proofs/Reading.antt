@@ -98,6 +98,14 @@ module _ (n from to bw du ea la : ℕ) where
 pub decided : (f : OrderFields) → Judged f (order_from f)
 decided f = judged f.number f.from f.to f.bandwidth f.duration f.earliest f.latest f.kind
 
+-- fields are refused with 11 alone
+pub wrong_bits : (f : OrderFields) (refusal : Refusal) → order_from f ≡ Err refusal → refusal ≡ BadBits
+wrong_bits f refusal e = by (decided f)
+  where
+    by : Judged f (order_from f) → refusal ≡ BadBits
+    by (inl g) = absurd (true≢false (sym g.2 ∙ ap (λ r. is_ok r) e))
+    by (inr w) = let q = sym e ∙ w.1 in cc
+
 -- an order of the right length, and one of a wrong length
 pub sized : (bytes : List ℕ) → length bytes ≡ 16 → order_read bytes ≡ order_from (fields_of bytes)
 unfolding order_read

@@ -1,5 +1,5 @@
 -- What the writer refuses and what it leaves: the definition taken apart.
-use mathlib.Core.Path.{◌≡◌, refl}
+use mathlib.Core.Path.{◌≡◌, refl, sym, ◌∙◌, ap}
 use mathlib.Core.Logic.{◌≢◌}
 use mathlib.Core.List.{List}
 use mathlib.Core.Bool.{Bool, true, false, and-eq-true_iff}
@@ -8,8 +8,11 @@ use native.Mathlib.Omega.{arith}
 use lib.Dec.{eqb}
 use lib.ListN.{length}
 use borrow.Author.Tests.{eqb-true, eq-eqb, ne_eqb}
-use Rattle.std.specs.Prelude.{is_ok}
+use Rattle.std.specs.Prelude.{Result, Ok, Err, is_ok}
 use Rattle.units.specs.declared.Link.{Link}
+use Rattle.units.specs.declared.Refusal.{Refusal}
+use Rattle.units.specs.declared.Refusal.TheVariants.{BadSize, BadLink, Unsound, BadField, TooLate, NumberStands, BookFull, NoStart, NotStanding, ClockBack, BadBits, BadLength, BadList}
+use Rattle.units.specs.Refusals.{number, number_of}
 use Rattle.layout.specs.declared.OrderForm.{OrderForm}
 use Rattle.layout.specs.Layout.{pack, fits, spelled, order_widths, link_widths}
 use Rattle.layout.specs.Records.{if_passed, order_from}
@@ -19,6 +22,30 @@ use Rattle.layout.specs.Forms.{tellable, form_fields, order_figures, form_fits, 
 passed : (t : Bool) (x k : ℕ) → k ≢ 0 → if_passed t x k ≡ 0 → (t ≡ true) × (x ≡ 0)
 passed true x k n e = (refl, e)
 passed false x k n e = absurd (n e)
+
+-- no refusal has the number of an accepted call
+numbered : (refusal : Refusal) → number refusal ≢ 0
+numbered BadSize z = omega arith
+numbered BadLink z = omega arith
+numbered Unsound z = omega arith
+numbered BadField z = omega arith
+numbered TooLate z = omega arith
+numbered NumberStands z = omega arith
+numbered BookFull z = omega arith
+numbered NoStart z = omega arith
+numbered NotStanding z = omega arith
+numbered ClockBack z = omega arith
+numbered BadBits z = omega arith
+numbered BadLength z = omega arith
+numbered BadList z = omega arith
+
+-- what a check that answers this number found
+module _ {A : Type 0} {r : Result A Refusal} {k : ℕ} (e : number_of r ≡ k) where
+  pub none_found : {x : A} → r ≡ Ok x → k ≡ 0
+  none_found q = sym e ∙ ap number_of q
+
+  pub some_found : {refusal : Refusal} → r ≡ Err refusal → k ≢ 0
+  some_found {refusal} q z = numbered refusal (sym (ap number_of q) ∙ e ∙ z)
 
 -- what is not refused: a piece of the right length, a form that the reader takes for an order, figures that fit, and a latest start that
 -- is read back

@@ -121,7 +121,7 @@ pub fn order_from(f: OrderFields) -> Result<Order, Refusal>
 }
 
 // What any bytes are read as: an order, or 12 for a wrong number of bytes, then 11.
-
+#[tactic(auto, unfolding(layout::specs::Records::order_read))]
 pub fn read_order(bytes: &[u8]) -> Result<Order, Refusal>
     ensures { result ≡ order_read bytes.now }
 {
@@ -145,7 +145,7 @@ fn link_from(f: LinkFields) -> Result<Link, Refusal>
 }
 
 // What any bytes are read as: a link, or 12 for a wrong number of bytes, then 11.
-
+#[tactic(auto, unfolding(layout::specs::Records::link_read))]
 pub fn read_link(bytes: &[u8]) -> Result<Link, Refusal>
     ensures { result ≡ link_read bytes.now }
 {
