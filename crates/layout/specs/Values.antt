@@ -47,8 +47,8 @@ abbrev pub plain_values : ℕ → ℕ → ℕ → ℕ → OrderRecord
 plain_values refusal kind number minute = record { refusal = refusal; kind = kind; number = number; request = only_earliest minute; latest_open = 0 }
 
 abbrev pub values_of : Order → OrderRecord
-values_of (Book n w) = request_values (kind_number kinds.Book) n w
-values_of (Cancel n) = plain_values 0 (kind_number kinds.Cancel) n 0
+values_of (Book number w) = request_values (kind_number kinds.Book) number w
+values_of (Cancel number) = plain_values 0 (kind_number kinds.Cancel) number 0
 values_of (Clock minute) = plain_values 0 (kind_number kinds.Clock) 0 minute.0
 values_of (Offer w) = request_values (kind_number kinds.Offer) 0 w
 
