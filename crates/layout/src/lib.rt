@@ -1,10 +1,12 @@
 // The two records of document 01 as types, with their definitions (specs) and the theorems about these (proofs): a link of
-// 64 bits and an order of 128, what any bytes are read as, and what a form is written as. The only functions are conversions: of
-// a kind, of the request of an order, and of what was read into a record for C.
+// 64 bits and an order of 128, what any bytes are read as, and what a form is written as. The functions here are the conversions
+// between these types: of fields, orders, forms and requests, and of what was read into a record for C.
 #![tactic(auto)]
 
-ghost use Rattle.std.specs.Prelude.{◌≡◌};
-ghost use Rattle.layout.specs.Records.{kind_of};
+ghost use Rattle.std.specs.Prelude.{◌≡◌, ◌==◌};
+ghost use Rattle.std.specs.List.{list_all};
+ghost use Rattle.layout.specs.Records.{if_passed, kind_of, wish_of, order_from, link_from};
+ghost use Rattle.layout.specs.Forms.{form_fields};
 ghost use Rattle.layout.specs.Values.{kind_number, request_of, request_values, plain_values, order_values, link_values};
 
 use units::{Bandwidth, Duration, Link, MAX_MINUTE, Minute, Refusal, Request};
@@ -17,6 +19,9 @@ pub const LINK_BYTES: usize = 8;
 pub const LEAD_BYTES: usize = 1;
 
 pub const FIRST_BYTES: usize = LEAD_BYTES + 255 * LINK_BYTES;
+
+// A latest start of all ones is open.
+pub const OPEN: u32 = 1073741823;
 
 // The kinds of an order, by their numbers.
 #[derive(Clone, Copy, Debug, PartialEq, Eq)]
@@ -108,6 +113,75 @@ pub struct OrderFields {
     pub latest: u32,
 }
 
+// The field of a latest start is all ones where it is open.
+impl From<OrderForm> for OrderFields {
+    ghost from_gives = { λ form fields. fields ≡ form_fields form };
+
+    fn from(form: OrderForm) -> OrderFields {
+        let wish = form.wish;
+        OrderFields {
+            kind: form.kind,
+            number: form.number,
+            from: wish.from,
+            to: wish.to,
+            bandwidth: wish.bandwidth.0,
+            duration: wish.duration.0,
+            earliest: wish.earliest.0,
+            latest: wish.latest.map_or(OPEN, |minute| minute.0),
+        }
+    }
+}
+
+// The request that the fields of a booking or an offer hold.
+impl From<OrderFields> for Wish {
+    ghost from_gives = { λ fields wish. wish ≡ wish_of fields };
+
+    fn from(fields: OrderFields) -> Wish {
+        Wish {
+            from: fields.from,
+            to: fields.to,
+            bandwidth: Bandwidth(fields.bandwidth),
+            duration: Duration(fields.duration),
+            earliest: Minute(fields.earliest),
+            latest: (fields.latest != OPEN).then_some(Minute(fields.latest)),
+        }
+    }
+}
+
+// The order, if the fields that its kind does not use are zero; else 11.
+fn if_unused(fields: &[u32], order: Order) -> Result<Order, Refusal>
+    ensures { result ≡ if_passed (list_all (λ x. x == 0) fields.now) (Ok order) (Err Refusal.BadBits) }
+{
+    if fields.iter().all(|&field| field == 0) {
+        Ok(order)
+    } else {
+        Err(Refusal::BadBits)
+    }
+}
+
+// The order that the fields hold; 11 for an unknown kind, or a field that is set and that the kind does not use.
+impl TryFrom<OrderFields> for Order {
+    type Error = Refusal;
+
+    ghost try_from_gives = { λ fields read. read ≡ order_from fields };
+
+    #[tactic(auto, unfolding(crate::specs::Records::order_from, crate::specs::Records::clear))]
+    fn try_from(f: OrderFields) -> Result<Order, Refusal> {
+        match OrderKind::try_from(f.kind)? {
+            OrderKind::Book => Ok(Order::Book(f.number, Wish::from(f))),
+            OrderKind::Cancel => {
+                let unused = [f.from, f.to, f.bandwidth, f.duration, f.earliest, f.latest];
+                if_unused(&unused, Order::Cancel(f.number))
+            }
+            OrderKind::Clock => {
+                let unused = [f.number, f.from, f.to, f.bandwidth, f.duration, f.latest];
+                if_unused(&unused, Order::Clock(Minute(f.earliest)))
+            }
+            OrderKind::Offer => if_unused(&[f.number], Order::Offer(Wish::from(f))),
+        }
+    }
+}
+
 // The four fields of a link, as cut from its bits; the last is the zero field.
 #[derive(Clone, Copy)]
 pub struct LinkFields {
@@ -115,6 +189,25 @@ pub struct LinkFields {
     pub to: u32,
     pub capacity: u32,
     pub zero: u64,
+}
+
+// The link that the fields hold; 11 for a bit that is set where zero is due.
+impl TryFrom<LinkFields> for Link {
+    type Error = Refusal;
+
+    ghost try_from_gives = { λ fields read. read ≡ link_from fields };
+
+    #[tactic(auto, unfolding(crate::specs::Records::link_from))]
+    fn try_from(fields: LinkFields) -> Result<Link, Refusal> {
+        if fields.zero != 0 {
+            return Err(Refusal::BadBits);
+        }
+        Ok(Link {
+            from: fields.from,
+            to: fields.to,
+            capacity: Bandwidth(fields.capacity),
+        })
+    }
 }
 
 // An order for C: the refusal number, 0 if there is none, and every field. An open latest start is the last minute, and

@@ -4,41 +4,17 @@
 ghost use Rattle.std.specs.Prelude.{◌≡◌, true, ◌&&◌, ◌+◌, ◌*◌, ◌^◌, ◌<◌, length};
 ghost use Rattle.units.specs.Refusals.{number_of};
 ghost use Rattle.layout.specs.Layout.{pack, fits, order_widths, link_widths};
-ghost use Rattle.layout.specs.Forms.{latest_field, tellable, form_fields, order_figures, form_fits, order_refusal, link_figures, link_refusal, order_written, link_written};
+ghost use Rattle.layout.specs.Forms.{tellable, order_figures, form_fits, order_refusal, link_figures, link_refusal, order_written, link_written};
 
-use layout::{LINK_BYTES, ORDER_BYTES, OrderFields, OrderForm};
-use reading::{BANDWIDTHS, DURATIONS, KINDS, MINUTES, NODES, NUMBERS, OPEN, ZEROS, order_from};
+use layout::{LINK_BYTES, OPEN, ORDER_BYTES, Order, OrderFields, OrderForm};
+use reading::{BANDWIDTHS, DURATIONS, KINDS, MINUTES, NODES, NUMBERS, ZEROS};
 use units::{Link, Minute, Refusal};
-
-// The field of a latest start: all ones where it is open.
-fn latest_field(latest: Option<Minute>) -> u32
-    ensures { result ≡ latest_field latest }
-{
-    latest.map_or(OPEN, |minute| minute.0)
-}
 
 // Whether a latest start can be told: a given minute of all ones cannot, since it would be read as open.
 fn tellable(latest: Option<Minute>) -> bool
     ensures { result ≡ tellable latest }
 {
     latest.is_none_or(|minute| minute.0 != OPEN)
-}
-
-// The eight fields of a form.
-fn form_fields(form: OrderForm) -> OrderFields
-    ensures { result ≡ form_fields form }
-{
-    let wish = form.wish;
-    OrderFields {
-        kind: form.kind,
-        number: form.number,
-        from: wish.from,
-        to: wish.to,
-        bandwidth: wish.bandwidth.0,
-        duration: wish.duration.0,
-        earliest: wish.earliest.0,
-        latest: latest_field(wish.latest),
-    }
 }
 
 // Whether no field of an order is too large for its width.
@@ -69,7 +45,7 @@ fn link_fits(link: Link) -> bool
 fn form_fits(form: OrderForm) -> bool
     ensures { result ≡ form_fits form }
 {
-    order_fits(form_fields(form)) && tellable(form.wish.latest)
+    order_fits(OrderFields::from(form)) && tellable(form.wish.latest)
 }
 
 // Refuses a form for a piece of so many bytes: 12 for a wrong number of them, 11 for a form that the reader would not take
@@ -81,7 +57,7 @@ fn check_order(count: usize, form: OrderForm) -> Result<(), Refusal>
     if count != ORDER_BYTES {
         return Err(Refusal::BadLength);
     }
-    order_from(form_fields(form))?;
+    Order::try_from(OrderFields::from(form))?;
     if !form_fits(form) {
         return Err(Refusal::BadField);
     }
@@ -140,7 +116,7 @@ pub fn write_order(bytes: &mut [u8], form: OrderForm) -> Result<(), Refusal>
     ensures bytes_after { bytes.new ≡ order_written bytes.old form }
 {
     check_order(bytes.len(), form)?;
-    bytes.copy_from_slice(&pack_order(form_fields(form)).to_be_bytes());
+    bytes.copy_from_slice(&pack_order(OrderFields::from(form)).to_be_bytes());
     Ok(())
 }
 

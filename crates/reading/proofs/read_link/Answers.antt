@@ -14,5 +14,5 @@ unfolding link_read
 returns c =
     let piece = MatchOption-at_some _ _ _ (c.ok_or.ensures.ok_part ∙ ap result_ok c.in_ok-piece.was) c.as_array.ensures.cases in
     rw (eq-eqb _ _ piece.long)
-    (c.link_from.ensures
+    (c.try_from.ensures
     ∙ ap (λ f. link_from f) (c.cut_link.ensures ∙ ap (λ n. link_fields (cut link_widths n)) (c.from_be_bytes.ensures ∙ number_is _ 7 (ap length piece.same ∙ piece.long) ∙ ap big_endian piece.same)))

@@ -14,5 +14,5 @@ unfolding order_read
 returns c =
     let piece = MatchOption-at_some _ _ _ (c.ok_or.ensures.ok_part ∙ ap result_ok c.in_ok-piece.was) c.as_array.ensures.cases in
     rw (eq-eqb _ _ piece.long)
-    (c.order_from.ensures
+    (c.try_from.ensures
     ∙ ap (λ f. order_from f) (c.cut_order.ensures ∙ ap (λ n. order_fields (cut order_widths n)) (c.from_be_bytes.ensures ∙ number_is _ 15 (ap length piece.same ∙ piece.long) ∙ ap big_endian piece.same)))

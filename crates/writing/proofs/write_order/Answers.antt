@@ -16,7 +16,7 @@ pub returns-in_err-check_order-clause-bytes_after : goal.returns-in_err-check_or
 returns-in_err-check_order-clause-bytes_after c = sym (order_left c.args.bytes.now c.args.form (some_found c.check_order.ensures c.in_err-check_order.was))
 
 pub pack_order-requires : goal.pack_order-requires
-pack_order-requires c = rw c.form_fields.ensures (writable _ _ (accepted (goal.at.pack_order-requires c).In_ok-check_order)).room
+pack_order-requires c = rw c.from.ensures (writable _ _ (accepted (goal.at.pack_order-requires c).In_ok-check_order)).room
 
 pub copy_from_slice-requires : goal.copy_from_slice-requires
 copy_from_slice-requires c = (writable _ _ (accepted (goal.at.copy_from_slice-requires c).In_ok-check_order)).sized ∙ ap length (sym c.to_be_bytes.ensures)
@@ -26,5 +26,5 @@ returns-clause-bytes_after c =
     c.copy_from_slice.ensures.after
     ∙ c.to_be_bytes.ensures
     ∙ bytes_are 16 c.pack_order.result
-    ∙ ap (spelled 16) (c.pack_order.ensures ∙ ap (λ f. pack order_widths (order_figures f)) c.form_fields.ensures)
+    ∙ ap (spelled 16) (c.pack_order.ensures ∙ ap (λ f. pack order_widths (order_figures f)) c.from.ensures)
     ∙ sym (order_made c.args.bytes.now c.args.form (accepted (goal.at.returns-clause-bytes_after c).In_ok-check_order))

@@ -4,7 +4,7 @@ use lib.Dec.{eqb}
 use Rattle.std.proofs.Common.{rules, tests}
 use Rattle.std.proofs.lemmas.Iterator.{YieldsList-from_slice}
 use Rattle.std.proofs.lemmas.Iterator.Search.{all_from_yields_List}
-use Rattle.reading.proofs.if_unused.Goals as goal
+use Rattle.layout.proofs.if_unused.Goals as goal
 
 pub returns-then-all : goal.returns-then-all
 returns-then-all c =
