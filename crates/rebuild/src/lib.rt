@@ -18,16 +18,11 @@ use units::{Head, LinkNumber, LinkTable, Minute, release};
 
 // Whether every link of a booking's path has its bandwidth free from its start until a minute.
 #[tactic(auto, using(crate::proofs::Along::enough_short, crate::proofs::Along::enough_next, crate::proofs::Along::enough_done))]
-fn path_fits(events: &[u32], free: &[u32], b: Booking, until: Minute) -> bool
-    requires sized { TablesSized events.now free.now }
+fn path_fits(table: FreeTable<'_>, b: Booking, until: Minute) -> bool
     requires place_right { PlaceRight b }
     requires ends_later { b.start.0 < until.0 }
-    ensures { result ≡ enough_path events.now b.start.0 until.0 b.bandwidth.0 (place_path b) free.now }
+    ensures { result ≡ enough_path table.entry.events.now b.start.0 until.0 b.bandwidth.0 (place_path b) table.entry.figures.now }
 {
-    let table = FreeTable {
-        events,
-        figures: free,
-    };
     for &link in &b.links[..b.count as usize] {
         if !table.has_bandwidth(b.start, until, LinkNumber(link), b.bandwidth) {
             return false;
@@ -60,7 +55,11 @@ pub fn add_booking(head: Head, events: &mut [u32], free: &mut [u32], b: Booking)
 {
     let until = Minute(release(head, b.start, b.duration) as u32);
     insert_span(events, free, b.start, until);
-    let fits = path_fits(events, free, b, until);
+    let table = FreeTable {
+        events,
+        figures: free,
+    };
+    let fits = path_fits(table, b, until);
     take_path(events, free, b, until);
     fits
 }

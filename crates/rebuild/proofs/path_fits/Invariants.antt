@@ -6,4 +6,4 @@ use Rattle.rebuild.proofs.path_fits.Given as goal
 abbrev pub invariant-loop-link : goal.invariant-loop-link
 invariant-loop-link l =
     let b = l.fn.b in
-    enough_path l.events b.start.0 l.until.0 b.bandwidth.0 (place_path b) l.free ≡ enough_path l.events b.start.0 l.until.0 b.bandwidth.0 (drop l.link-index (place_path b)) l.free
+    enough_path l.table.events.now b.start.0 l.until.0 b.bandwidth.0 (place_path b) l.table.figures.now ≡ enough_path l.table.events.now b.start.0 l.until.0 b.bandwidth.0 (drop l.link-index (place_path b)) l.table.figures.now
