@@ -1,26 +1,20 @@
 -- On fine tables the figure that is kept for a link and a minute is what the plain book leaves free.
 use mathlib.Core.Path.{◌≡◌}
 use Prim.Native.Nat.{ℕ, ◌≤◌, ◌<◌}
-use native.Mathlib.Omega.{arith}
 use lib.ListN.{length}
 use Rattle.units.specs.Limits.{most_events}
 use Rattle.free_table.specs.Figures.{kept}
-use Rattle.free_table.specs.Taking as table_sizes
 use Rattle.free_table.proofs.Figures.{kept_figure}
 use Rattle.units.specs.declared.LinkTable.{LinkTable}
 use Rattle.rules.specs.Plain.{free}
 use Rattle.rules.specs.Tables.{Tables, held, Fine}
 use Rattle.units.specs.LinkTables.{links_of}
-use Rattle.starts.proofs.BestStart.{few_links, tables_sized}
 use Rattle.rules.proofs.Uses.{all_times, free_changes}
 use Rattle.rules.proofs.Fine.{sizes, events_are, free_are}
 use Rattle.rules.proofs.LinkColumns.{links_count}
 
 module _ (links : LinkTable) (t : Tables) (f : Fine (links_of links) t) where
-  -- a link of the list has a figure in every row, and it is what the plain book leaves free
-  pub figure_asks : (l : ℕ) → l < links.count → table_sizes.Sized t.events t.free l
-  figure_asks l h = record { some = (tables_sized links t f).some; free_sized = (tables_sized links t f).free_sized; column = let few = few_links links t f in omega arith }
-
+  -- the figure of a link of the list is what the plain book leaves free
   pub figure_is : (l m : ℕ) → l < links.count → t.head.clock.0 ≤ m → kept t.events t.free l m ≡ free (links_of links) (held t) l m
   figure_is l m h k =
       rw (events_are f, free_are f)

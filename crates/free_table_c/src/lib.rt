@@ -8,6 +8,7 @@ ghost use Rattle.free_table.specs.Figures.{kept, all_free, Capacities};
 ghost use Rattle.free_table.specs.Taking.{less_span, Sized};
 ghost use Rattle.free_table.specs.Looking.{enough_span};
 
+use free_table::FreeTable;
 use units::{Bandwidth, LinkNumber, Minute};
 
 // The free table of a desk without bookings.
@@ -30,7 +31,11 @@ pub extern "C" fn free_figure(
     requires { Sized events.now free.now link.0 }
     ensures { result.0 ≡ kept events.now free.now link.0 minute.0 }
 {
-    free_table::free_figure(events, free, link, minute)
+    let table = FreeTable {
+        events,
+        figures: free,
+    };
+    table.figure(link, minute)
 }
 
 // Takes bandwidth from one link in minutes start to end - 1.
@@ -63,5 +68,9 @@ pub extern "C" fn has_bandwidth(
     requires { Sized events.now free.now link.0 × (start.0 < end.0) }
     ensures { result ≡ enough_span events.now start.0 end.0 link.0 bandwidth.0 free.now }
 {
-    free_table::has_bandwidth(events, free, start, end, link, bandwidth)
+    let table = FreeTable {
+        events,
+        figures: free,
+    };
+    table.has_bandwidth(start, end, link, bandwidth)
 }

@@ -12,56 +12,35 @@ ghost use Rattle.free_table.specs.Looking.{TablesSized};
 ghost use Rattle.rebuild.specs.Rebuilding.{place_path, release_of, less_path, enough_path, PlaceRight, CanRebuild};
 
 use book::{Booking, booking_at};
-use free_table::{has_bandwidth, reset_free, take_bandwidth};
+use free_table::{FreeTable, reset_free, take_bandwidth};
 use timeline::{insert_span, reset_events};
 use units::{Head, LinkNumber, LinkTable, Minute, release};
 
 // Whether every link of a booking's path has its bandwidth free from its start until a minute.
-fn path_fits(events: &[u32], free: &[u32], b: Booking, until: Minute) -> bool
-    requires sized { TablesSized events.now free.now }
+#[tactic(auto, using(crate::proofs::Along::enough_short, crate::proofs::Along::enough_next, crate::proofs::Along::enough_done))]
+fn path_fits(table: FreeTable<'_>, b: Booking, until: Minute) -> bool
     requires place_right { PlaceRight b }
     requires ends_later { b.start.0 < until.0 }
-    ensures { result ≡ enough_path events.now b.start.0 until.0 b.bandwidth.0 (place_path b) free.now }
+    ensures { result ≡ enough_path table.entry.events.now b.start.0 until.0 b.bandwidth.0 (place_path b) table.entry.figures.now }
 {
-    let links = b.links;
-    let count = b.count as usize;
-    let mut i = 0;
-    while i < count {
-        if !has_bandwidth(
-            events,
-            free,
-            b.start,
-            until,
-            LinkNumber(links[i]),
-            b.bandwidth,
-        ) {
+    for &link in &b.links[..b.count as usize] {
+        if !table.has_bandwidth(b.start, until, LinkNumber(link), b.bandwidth) {
             return false;
         }
-        i += 1;
     }
     true
 }
 
 // Takes a booking's bandwidth from every link of its path from its start until a minute.
+#[tactic(auto, using(crate::proofs::Along::less_next, crate::proofs::Along::less_done))]
 fn take_path(events: &[u32], free: &mut [u32], b: Booking, until: Minute)
     requires sized { TablesSized events.now free.old }
     requires place_right { PlaceRight b }
     requires ends_later { b.start.0 < until.0 }
     ensures { free.new ≡ less_path events.now b.start.0 until.0 b.bandwidth.0 (place_path b) free.old }
 {
-    let links = b.links;
-    let count = b.count as usize;
-    let mut i = 0;
-    while i < count {
-        take_bandwidth(
-            events,
-            free,
-            b.start,
-            until,
-            LinkNumber(links[i]),
-            b.bandwidth,
-        );
-        i += 1;
+    for &link in &b.links[..b.count as usize] {
+        take_bandwidth(events, free, b.start, until, LinkNumber(link), b.bandwidth);
     }
 }
 
@@ -76,7 +55,11 @@ pub fn add_booking(head: Head, events: &mut [u32], free: &mut [u32], b: Booking)
 {
     let until = Minute(release(head, b.start, b.duration) as u32);
     insert_span(events, free, b.start, until);
-    let fits = path_fits(events, free, b, until);
+    let table = FreeTable {
+        events,
+        figures: free,
+    };
+    let fits = path_fits(table, b, until);
     take_path(events, free, b, until);
     fits
 }

@@ -3,6 +3,7 @@ use mathlib.Core.Path.{◌≡◌, refl, sym, ap, ◌∙◌}
 use mathlib.Core.List.{List}
 use mathlib.Core.Bool.{true}
 use Prim.Native.Nat.{◌<◌}
+use native.Mathlib.Omega.{arith}
 use lib.ListN.{length}
 use Rattle.units.specs.declared.Link.{Link}
 use Rattle.units.specs.LinkTables.{links_of}
@@ -16,7 +17,8 @@ use Rattle.rules.proofs.LinkColumns.{links_count}
 use Rattle.rules.proofs.Exits.{refused_with, stopped, all_passed, accepted}
 use Rattle.refusals.proofs.TableChecks.{fine, tables_refused}
 use Rattle.desk_core.proofs.Handed.{handed_shown}
-use Rattle.desk_core.proofs.Figures.{figure_asks, figure_is}
+use Rattle.starts.proofs.BestStart.{few_links, tables_sized}
+use Rattle.desk_core.proofs.Figures.{figure_is}
 use Rattle.desk_core.proofs.show.Goals as goal
 use Rattle.desk_core.proofs.show.Goals.{Start}
 
@@ -47,16 +49,22 @@ returns-then-refusal-ne0-2 c =
     c.not_shown-then-refusal-ne0-2.ensures
     ∙ handed_shown (links (goal.at.returns-then-refusal-ne0-2 c).Start) (came (goal.at.returns-then-refusal-ne0-2 c).Start) (ask (called (goal.at.returns-then-refusal-ne0-2 c).Start)) (refused_with _ (came (goal.at.returns-then-refusal-ne0-2 c).Start)) (stopped (links (goal.at.returns-then-refusal-ne0-2 c).Start) (came (goal.at.returns-then-refusal-ne0-2 c).Start) (called (goal.at.returns-then-refusal-ne0-2 c).Start) f.is_sized refl f.is_sound _ (sym c.show_refusal-refusal.ensures) c.if-refusal-ne0-2.true)
 
-pub free_figure-requires : goal.free_figure-requires
-free_figure-requires c =
-    let f = fine (links (goal.at.free_figure-requires c).Start) (came (goal.at.free_figure-requires c).Start) true (sym c.table_refusal-refusal.ensures ∙ c.if-refusal-ne0.false) in
-    let passes : first_refusal (own_checks (links (goal.at.free_figure-requires c).Start) (held (came (goal.at.free_figure-requires c).Start)) (called (goal.at.free_figure-requires c).Start)) ≡ 0 = sym c.show_refusal-refusal.ensures ∙ c.if-refusal-ne0-2.false in
-    figure_asks c.args.links (came (goal.at.free_figure-requires c).Start) f c.args.link.0 (passed (goal.at.free_figure-requires c).Start f passes).0
+pub invariant_of-table : goal.invariant_of-table
+invariant_of-table c =
+    let s = (goal.at.invariant_of-table c).Start in
+    record { sized = tables_sized s.args.links (came s) (fine (links s) (came s) true (sym c.table_refusal-refusal.ensures ∙ c.if-refusal-ne0.false)) }
+
+pub figure-requires : goal.figure-requires
+figure-requires c =
+    let s = (goal.at.figure-requires c).Start in
+    let f = fine (links s) (came s) true (sym c.table_refusal-refusal.ensures ∙ c.if-refusal-ne0.false) in
+    let passes : first_refusal (own_checks (links s) (held (came s)) (called s)) ≡ 0 = sym c.show_refusal-refusal.ensures ∙ c.if-refusal-ne0-2.false in
+    omega (arith, few_links s.args.links (came s) f, (passed s f passes).0)
 
 pub returns : goal.returns
 returns c =
     let f = fine (links (goal.at.returns c).Start) (came (goal.at.returns c).Start) true (sym c.table_refusal-refusal.ensures ∙ c.if-refusal-ne0.false) in
     let passes : first_refusal (own_checks (links (goal.at.returns c).Start) (held (came (goal.at.returns c).Start)) (called (goal.at.returns c).Start)) ≡ 0 = sym c.show_refusal-refusal.ensures ∙ c.if-refusal-ne0-2.false in
     let q = passed (goal.at.returns c).Start f passes in
-    ap (λ x. record { refusal = 0; free = record { 0 = x } }) (c.free_figure.ensures ∙ figure_is c.args.links (came (goal.at.returns c).Start) f c.args.link.0 c.args.minute.0 q.0 q.1.0)
+    ap (λ x. record { refusal = 0; free = record { 0 = x } }) (c.figure.ensures ∙ figure_is c.args.links (came (goal.at.returns c).Start) f c.args.link.0 c.args.minute.0 q.0 q.1.0)
     ∙ handed_shown (links (goal.at.returns c).Start) (came (goal.at.returns c).Start) (ask (called (goal.at.returns c).Start)) _ (accepted (links (goal.at.returns c).Start) (came (goal.at.returns c).Start) (called (goal.at.returns c).Start) f.is_sized refl f.is_sound passes (shows (free (links (goal.at.returns c).Start) (held (came (goal.at.returns c).Start)) c.args.link.0 c.args.minute.0)) refl)

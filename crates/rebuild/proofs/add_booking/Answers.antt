@@ -21,7 +21,7 @@ opened : (c : After-insert_span) → let a = c.args in
 opened c = rw (← c.release.ensures) c.insert_span.ensures
 
 pub path_fits-fits-requires : goal.path_fits-fits-requires
-path_fits-fits-requires c = record { sized = search rules; place_right = search rules; ends_later = later (goal.at.path_fits-fits-requires c).After-insert_span }
+path_fits-fits-requires c = record { place_right = search rules; ends_later = later (goal.at.path_fits-fits-requires c).After-insert_span }
 
 pub take_path-requires : goal.take_path-requires
 take_path-requires c = record { sized = search rules; place_right = search rules; ends_later = later (goal.at.take_path-requires c).After-insert_span }
