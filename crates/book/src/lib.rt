@@ -2,8 +2,8 @@
 // asks no more than a place's size stands in `places`. It never sees what is free.
 #![tactic(auto)]
 
-ghost use Rattle.std.specs.Prelude.{◌≡◌, ◌++◌, ◌+◌, ◌*◌, ◌≤◌, length, take, drop};
-ghost use Rattle.units.specs.Limits.{most_hops, place_size};
+ghost use Rattle.std.specs.Prelude.{◌≡◌, ◌++◌, ◌+◌, ◌*◌, ◌≤◌, length, drop};
+ghost use Rattle.units.specs.Limits.{place_size};
 ghost use Rattle.book.specs.Places.{booking_in, figures, with_booking};
 
 use places::{DURATION, START, open_place};
@@ -28,20 +28,6 @@ pub struct Booking {
     pub links: [u32; PATH_LINKS],
 }
 
-// The thirty-one path places from `at` on.
-fn path_at(book: &[u32], at: usize) -> [u32; PATH_LINKS]
-    requires { at + most_hops ≤ length book.now }
-    ensures { result ≡ take most_hops (drop at book.now) }
-{
-    let mut links = [0; PATH_LINKS];
-    let mut i = 0;
-    while i < PATH_LINKS {
-        links[i] = book[at + i];
-        i += 1;
-    }
-    links
-}
-
 // The booking at a place.
 pub fn booking_at(book: &[u32], place: usize) -> Booking
     requires { place * place_size + place_size ≤ length book.now }
@@ -54,19 +40,7 @@ pub fn booking_at(book: &[u32], place: usize) -> Booking
         duration: Duration(book[at + DURATION]),
         bandwidth: Bandwidth(book[at + BANDWIDTH]),
         count: book[at + COUNT],
-        links: path_at(book, at + PATH),
-    }
-}
-
-// Writes the thirty-one path places at the front of the part.
-fn write_path(part: &mut [u32], links: [u32; PATH_LINKS])
-    requires { most_hops ≤ length part.old }
-    ensures { part.new ≡ links ++ drop most_hops part.old }
-{
-    let mut i = 0;
-    while i < PATH_LINKS {
-        part[i] = links[i];
-        i += 1;
+        links: *book[at + PATH..].first_chunk().unwrap(),
     }
 }
 
@@ -80,8 +54,7 @@ fn write_place(part: &mut [u32], booking: Booking)
     part[DURATION] = booking.duration.0;
     part[BANDWIDTH] = booking.bandwidth.0;
     part[COUNT] = booking.count;
-    let links = booking.links;
-    write_path(&mut part[PATH..], links);
+    part[PATH..PLACE].copy_from_slice(&booking.links);
 }
 
 // Puts a booking in at a place; those behind it move up.

@@ -9,14 +9,13 @@ use native.Mathlib.Omega.{arith}
 use lib.Dec.{leb, ltb, eqb}
 use lib.ListN.{length, take, drop, length-append, length-drop, take-append-drop}
 use lib.Seq.{length-take-le}
+use Rattle.std.specs.Prelude.{Option, Some}
 use Rattle.units.specs.declared.Link.{Link}
 use Rattle.units.specs.Limits.{most_bookings, place_size}
 use Rattle.units.specs.Lists.{select, Distinct}
 use Rattle.units.proofs.Permuted.{all_permuted}
 use Rattle.units.proofs.Parts.{select_part, map_part, rising_part}
 use Rattle.units.proofs.Padded.{Rows}
-use Rattle.places.specs.declared.Standing.{Standing}
-use Rattle.places.specs.declared.Standing.TheVariants.{At}
 use Rattle.places.specs.Places.{find, slot, slot_among, with_place, without_place, still_standing, only_places, further}
 use Rattle.places.proofs.Found.{Place as Found, there, missing}
 use Rattle.places.proofs.Filled.{number_of, filled, find_filled, drop_filled, count_filled, slot_filled, insert_filled, remove_filled}
@@ -72,14 +71,14 @@ module _ {links : List Link} {t : Tables} (fine : Fine links t) where
     pub book_is : without_place place_size i t.book ≡ book_table (take_out number (held t))
     pub count_is : t.head.bookings - 1 ≡ length (take_out number (held t)).bookings
 
-  pub released : (number i : ℕ) → find place_size number t.book t.head.bookings ≡ At i → Released number i
+  pub released : (number i : ℕ) → find place_size number t.book t.head.bookings ≡ Some i → Released number i
   released number i e =
       by (subst (Found (number_of place) number bookings) (ap₂ (λ (b : List ℕ) n. find place_size number b n) (sym book_filled) (held_count t) ∙ e) (find_filled place_size most_bookings place bookings rows_right (omega arith) number)) refl
     where
       bookings : List Booking
       bookings = (held t).bookings
 
-      by : {s : Standing} → Found (number_of place) number bookings s → s ≡ At i → Released number i
+      by : {s : Option ℕ} → Found (number_of place) number bookings s → s ≡ Some i → Released number i
       by (missing m) q = let z : ◌≡◌ {A = ℕ} 0 1 = cc in absurd (omega arith)
       by (there xs b ys split same other) q =
           let at : length xs ≡ i = cc in

@@ -2,9 +2,8 @@
 // the head after it. The calls ask first; nothing here refuses.
 #![tactic(auto)]
 
-ghost use Rattle.std.specs.Prelude.{◌≡◌, true, ◌≤◌, length};
+ghost use Rattle.std.specs.Prelude.{◌≡◌, Some, true, ◌≤◌, length};
 ghost use Rattle.units.specs.Limits.{last_minute, place_size};
-ghost use Rattle.places.specs.declared.Standing.TheVariants.{At};
 ghost use Rattle.places.specs.Places.{find};
 ghost use Rattle.rules.specs.Plain.{empty};
 ghost use Rattle.rules.specs.Calls.{stands, take_out, move_to, put_in};
@@ -15,7 +14,7 @@ ghost use Rattle.changes.specs.Updating.{booked, Grantable};
 use book::{Booking, insert_booking};
 use free_table::reset_free;
 use path_search::Path;
-use places::{Standing, drop_ended, find, remove_place, slot};
+use places::{drop_ended, find, remove_place, slot};
 use rebuild::{add_booking, rebuild};
 use timeline::reset_events;
 use units::{Head, LinkTable, Minute, PLACE, Request, clear_from};
@@ -46,7 +45,7 @@ fn release_place(
     place: usize,
 ) -> Head
     requires fine { Fine (links_of links) (lent head events.old free.old book.old) }
-    requires found { find place_size number book.old head.bookings ≡ At place }
+    requires found { find place_size number book.old head.bookings ≡ Some place }
     ensures { (lent result events.new free.new book.new) ≡ tables (links_of links) (take_out number (held (lent head events.old free.old book.old))) }
 {
     let mut after = head;
@@ -69,7 +68,7 @@ pub fn take_out(
     requires stands { stands number (held (lent head events.old free.old book.old)).bookings ≡ true }
     ensures { (lent result events.new free.new book.new) ≡ tables (links_of links) (take_out number (held (lent head events.old free.old book.old))) }
 {
-    let Standing::At(place) = find(book, PLACE, head.bookings as usize, number) else {
+    let Some(place) = find(book, PLACE, head.bookings as usize, number) else {
         return head;
     };
     release_place(head, links, events, free, book, number, place)

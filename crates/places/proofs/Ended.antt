@@ -1,6 +1,6 @@
 -- Dropping what has ended, place by place: the front holds those that stand of the places that are passed, and the places
 -- behind are as they came.
-use mathlib.Core.Path.{◌≡◌, refl, sym, ap, ap₂, subst₂, ◌∙◌}
+use mathlib.Core.Path.{◌≡◌, refl, sym, ap, ap₂, ◌∙◌}
 use mathlib.Core.List.{List, [], ◌∷◌, ◌++◌, flatten, map-append, append_assoc, append-nil}
 use mathlib.Core.Bool.{Bool, true, false}
 use Prim.Native.Nat.{ℕ, zero, suc, ◌+◌, ◌-◌, ◌*◌, ◌≤◌}
@@ -9,9 +9,10 @@ use native.Mathlib.Numerals.{add-one}
 use native.Mathlib.Omega.{arith}
 use lib.ListN.{length, take, drop, replicate, length-append, length-drop}
 use lib.Seq.{drop-drop, take_at, drop_at, length-take-le}
+use Rattle.std.specs.List.{copy_within}
 use Rattle.units.specs.declared.Head.{Head}
 use Rattle.units.specs.Lists.{count_from, cons_if, select}
-use Rattle.places.specs.Places.{place_in, place_copied, places_in, stands_at, still_standing, only_places}
+use Rattle.places.specs.Places.{place_in, places_in, stands_at, still_standing, only_places}
 
 count_snoc : (i n : ℕ) → count_from i (suc n) ≡ count_from i n ++ ((i + n) ∷ [])
 unfolding count_from
@@ -53,6 +54,7 @@ module _ (size : ℕ) (head : Head) (book : List ℕ) (n : ℕ) where
 
 -- `kept` of the first `place` places that came stand at the clock and are at the front
 pub record Kept (size : ℕ) (head : Head) (came book : List ℕ) (kept place : ℕ) : Type 0 where
+  pub same : length book ≡ length came
   pub few : kept ≤ place
   pub inside : kept * size ≤ place * size
   pub count : kept ≡ length (still_standing size head came place)
@@ -61,10 +63,7 @@ pub record Kept (size : ℕ) (head : Head) (came book : List ℕ) (kept place : 
 
 pub kept_none : (size : ℕ) (head : Head) (came : List ℕ) → Kept size head came came 0 0
 unfolding still_standing select count_from flatten
-kept_none size head came = record { few = omega arith; inside = omega arith; count = refl; front = ap (λ n. take n came) (zero-mul size); behind = refl }
-
-pub kept_as : {size : ℕ} {head : Head} {came book after : List ℕ} {kept count place : ℕ} → after ≡ book → count ≡ kept → Kept size head came book kept place → Kept size head came after count place
-kept_as {size} {head} {came} {place = place} e n k = subst₂ (λ (b : List ℕ) i. Kept size head came b i place) (sym e) (sym n) k
+kept_none size head came = record { same = refl; few = omega arith; inside = omega arith; count = refl; front = ap (λ n. take n came) (zero-mul size); behind = refl }
 
 module _ (size : ℕ) (head : Head) (came book : List ℕ) (kept place : ℕ) (k : Kept size head came book kept place) where
   next_behind : drop ((place + 1) * size) book ≡ drop ((place + 1) * size) came
@@ -75,10 +74,12 @@ module _ (size : ℕ) (head : Head) (came book : List ℕ) (kept place : ℕ) (k
   as_came : place_in size book place ≡ place_in size came place
   as_came = ap (take size) k.behind
 
+  -- one that has ended is passed
   pub kept_same : stands_at head (place_in size book place) ≡ false → Kept size head came book kept (place + 1)
   kept_same s =
       let e : still_standing size head came (place + 1) ≡ still_standing size head came place = standing_same size head came place (ap (stands_at head) (sym as_came) ∙ s) in
       record {
+        same = k.same;
         few = omega (arith, k.few);
         inside = omega (arith, k.inside);
         count = k.count ∙ ap length (sym e);
@@ -86,9 +87,11 @@ module _ (size : ℕ) (head : Head) (came book : List ℕ) (kept place : ℕ) (k
         behind = next_behind;
       }
 
-  pub kept_more : stands_at head (place_in size book place) ≡ true → place * size + size ≤ length book → Kept size head came (place_copied size kept place book) (kept + 1) (place + 1)
+  -- one that stands is copied behind those before it
+  pub kept_more : stands_at head (place_in size book place) ≡ true → place * size + size ≤ length book → Kept size head came (copy_within book (place * size) (place * size + size) (kept * size)) (kept + 1) (place + 1)
   kept_more s h =
       record {
+        same = ap length split ∙ rw (length-append front rest, length-drop cut book) (omega (arith, front_length, k.inside, k.same));
         few = omega (arith, k.few);
         inside = omega (arith, k.inside);
         count = omega (arith, k.count, ap length e, length-append (still_standing size head came place) (place_in size came place ∷ []));
@@ -120,8 +123,8 @@ module _ (size : ℕ) (head : Head) (came book : List ℕ) (kept place : ℕ) (k
       rest : List ℕ
       rest = drop cut book
 
-      split : place_copied size kept place book ≡ front ++ rest
-      split = sym (append_assoc (take (kept * size) book) (place_in size book place) rest)
+      split : copy_within book (place * size) (place * size + size) (kept * size) ≡ front ++ rest
+      split = ap (λ n. take (kept * size) book ++ take n (drop (place * size) book) ++ drop (kept * size + n) book) (omega arith)
 
       e : still_standing size head came (place + 1) ≡ still_standing size head came place ++ (place_in size came place ∷ [])
       e = standing_more size head came place (ap (stands_at head) (sym as_came) ∙ s)
@@ -139,9 +142,8 @@ module _ (size : ℕ) (head : Head) (came book : List ℕ) (kept place : ℕ) (k
           rw length-append (omega (arith, length-take-le (kept * size) book b, length-take-le size (drop (place * size) book) p))
 
   -- with zeros behind the front
-  pub kept_all : place * size ≤ length book → length book ≡ length came
-      → take (kept * size) book ++ replicate (length book - kept * size) 0 ≡ only_places (length came) (still_standing size head came place)
-  kept_all p l = ap₂ (λ (t : List ℕ) n. t ++ replicate n 0) k.front zeros
+  pub kept_all : place * size ≤ length book → take (kept * size) book ++ replicate (length book - kept * size) 0 ≡ only_places (length came) (still_standing size head came place)
+  kept_all p = ap₂ (λ (t : List ℕ) n. t ++ replicate n 0) k.front zeros
     where
       zeros : length book - kept * size ≡ length came - length (flatten (still_standing size head came place))
-      zeros = omega (arith, length-take-le (kept * size) book (omega (arith, k.inside)), ap length k.front)
+      zeros = omega (arith, k.same, length-take-le (kept * size) book (omega (arith, k.inside)), ap length k.front)

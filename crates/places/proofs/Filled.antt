@@ -6,14 +6,16 @@ use mathlib.Core.Bool.{Bool, true, false}
 use Prim.Native.Nat.{ℕ, suc, ◌+◌, ◌-◌, ◌*◌, ◌≤◌, ◌<◌}
 use native.Mathlib.Nat.{mul-le-mul_right}
 use native.Mathlib.Omega.{arith}
+use lib.Dec.{eqb}
 use lib.ListN.{length, get_or, take, drop, length-append, length-map, get_or-append}
 use lib.Seq.{take_at, drop_at, get_or-append-add}
+use Rattle.std.specs.List.{position}
 use Rattle.units.specs.declared.Head.{Head}
 use Rattle.units.specs.Lists.{cons_if, select, All}
 use Rattle.units.proofs.Padded.{Rows, length_padded, length_rows, rows_insert, rows_remove}
-use Rattle.places.specs.Places.{number_at, numbers_in, find, standing, slot, slot_among, with_place, without_place, place_in, places_in, stands_at, still_standing, only_places}
+use Rattle.places.specs.Places.{number_at, numbers_in, find, slot, slot_among, with_place, without_place, place_in, places_in, stands_at, still_standing, only_places}
 use Rattle.places.proofs.Reading.{Reads, read_filled}
-use Rattle.places.proofs.Found.{first_in, first_read, Place, searched, place_of}
+use Rattle.places.proofs.Found.{Place, place_found}
 
 select_map : {A B : Type 0} (test : B → Bool) (f : A → B) (xs : List A) → select test (map f xs) ≡ map f (select (λ x. test (f x)) xs)
 unfolding select
@@ -85,9 +87,7 @@ module _ (size most : ℕ) {A : Type 0} (f : A → List ℕ) where
       pub find_filled : (number : ℕ) → Place (number_of f) number xs (find size number (filled xs) (length xs))
       unfolding find
       find_filled number =
-          subst (λ s. Place (number_of f) number xs (standing s))
-          (sym (first_read number (number_at size (filled xs)) 0 (length xs) ∙ ap (first_in number 0) numbers_filled))
-          (place_of (number_of f) number (searched (number_of f) number 0 xs))
+          subst (λ (ms : List ℕ). Place (number_of f) number xs (position (λ m. eqb m number) ms)) (sym numbers_filled) (place_found (number_of f) number xs)
 
   -- with one row more, and without a row
   module _ (xs : List A) (x : A) (ys : List A) (r : Rows f size (xs ++ (x ∷ ys))) (few : length xs + suc (length ys) ≤ most) where

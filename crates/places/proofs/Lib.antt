@@ -1,7 +1,7 @@
 -- Laws of the definitions of `specs/`, and the steps of the loops.
-pub mod Finding
-pub mod Copying
+pub mod Walking
 pub mod Opening
+pub mod Moving
 pub mod Ended
 pub mod Reading
 pub mod Found

@@ -22,16 +22,7 @@ module _ (size i : ℕ) (book : List ℕ) (h : i * size + size ≤ length book) 
   place_length : length (place_in size book i) ≡ size
   place_length = length-take-le size rest (rw length-drop (omega arith))
 
-  -- the part from the place on, moved up by a place
-  pub place_opened : {last : List ℕ} → last ≡ take size (take (length book - from) rest) ++ take (length (take (length book - from) rest) - size) (take (length book - from) rest)
-      → put_mid from (length book - from) book last ≡ with_place size i (place_in size book i) book
-  unfolding with_place
-  place_opened {last} e =
-      let count : length rest - size ≡ length book - (from + length (place_in size book i)) = omega (arith, length-drop from book, place_length) in
-      part_back from book last (λ (t : List ℕ). take size t ++ take (length t - size) t) (omega arith) e
-      ∙ ap (λ n. take from book ++ (place_in size book i ++ take n rest)) count
-
-  -- and the place written over
+  -- the place that was opened is written over
   pub place_put : {opened last : List ℕ} (piece : List ℕ) → length piece ≡ size → opened ≡ with_place size i (place_in size book i) book
       → last ≡ piece ++ drop size (take (length opened - from) (drop from opened))
       → put_mid from (length opened - from) opened last ≡ with_place size i piece book

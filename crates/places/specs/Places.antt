@@ -1,13 +1,11 @@
 -- A book table as its owner lends it: places of `size` figures, a booking each. Every kind of desk begins a place with number,
 -- start and duration; this crate knows nothing of the figures behind them.
 use mathlib.Core.List.{List, [], ◌∷◌, ◌++◌, map, flatten}
-use Rattle.std.specs.Prelude.{Bool, true, false, ℕ, suc, ◌+◌, ◌*◌, leb, ltb, eqb, get_or, take, drop, replicate}
+use Rattle.std.specs.Prelude.{Bool, true, false, Option, ℕ, suc, ◌+◌, ◌*◌, leb, ltb, eqb, get_or, take, drop, replicate}
+use Rattle.std.specs.List.{position}
 use Rattle.units.specs.Lists.{padded, count_from, select, put_piece}
-use Rattle.units.specs.Search.{Found, at, nothing, first_from}
 use Rattle.units.specs.Spans.{span_of, release}
 use Rattle.units.specs.declared.Head.{Head}
-use Rattle.places.specs.declared.Standing.{Standing}
-use Rattle.places.specs.declared.Standing.TheVariants.{At, Nowhere}
 
 -- where the start and the duration stand in a place; its number stands first
 abbrev pub start_figure : ℕ
@@ -15,11 +13,6 @@ start_figure = 1
 
 abbrev pub duration_figure : ℕ
 duration_figure = 2
-
--- what a search found, as the place where a number stands
-abbrev pub standing : Found → Standing
-standing (at i) = At i
-standing nothing = Nowhere
 
 -- one place further if the test passes
 abbrev pub further : Bool → ℕ → ℕ
@@ -44,13 +37,13 @@ module _ (size : ℕ) where
   abbrev pub number_at : List ℕ → ℕ → ℕ
   number_at book i = get_or book (i * size) 0
 
-  -- where a number stands among the first n places: the first that has it
-  unfoldable pub find : ℕ → List ℕ → ℕ → Standing
-  find number book n = standing (first_from 0 n (λ i. eqb (number_at book i) number))
-
   -- the booking numbers of the first n places
   abbrev pub numbers_in : List ℕ → ℕ → List ℕ
   numbers_in book n = map (number_at book) (count_from 0 n)
+
+  -- where a number stands among the first n places: the first that has it
+  unfoldable pub find : ℕ → List ℕ → ℕ → Option ℕ
+  find number book n = position (λ m. eqb m number) (numbers_in book n)
 
   -- the place of a new number among the first n places
   abbrev pub slot : ℕ → List ℕ → ℕ → ℕ
@@ -67,10 +60,6 @@ module _ (size : ℕ) where
   -- the figures of place i
   abbrev pub place_in : List ℕ → ℕ → List ℕ
   place_in book i = take size (drop (i * size) book)
-
-  -- the book with the figures of place `from` copied over place `to`
-  abbrev pub place_copied : ℕ → ℕ → List ℕ → List ℕ
-  place_copied to from book = take (to * size) book ++ (place_in book from ++ drop (to * size + size) book)
 
   -- the figures of each of the first n places
   abbrev pub places_in : List ℕ → ℕ → List (List ℕ)

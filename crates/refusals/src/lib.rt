@@ -9,7 +9,7 @@ ghost use Rattle.rules.specs.Tables.{held_by, lent_checks, table_checks, lent};
 ghost use Rattle.units.specs.LinkTables.{links_of};
 
 use limits::{in_range, links_right, request_ok, sized};
-use places::{Standing, find};
+use places::find;
 use soundness::sound;
 use units::{
     BAD_FIELD, BAD_LINK, BAD_LIST, BAD_SIZE, BOOK_FULL, BOOKINGS, CLOCK_BACK, Head, LIST_FIGURES,
@@ -43,7 +43,7 @@ pub fn book_refusal(head: Head, book: &[u32], number: u32, request: Request) -> 
         return refusal;
     }
     let count = head.bookings as usize;
-    if let Standing::At(_) = find(book, PLACE, count, number) {
+    if find(book, PLACE, count, number).is_some() {
         return NUMBER_STANDS;
     }
     if BOOKINGS <= count {
@@ -60,10 +60,10 @@ pub fn cancel_refusal(head: Head, book: &[u32], number: u32) -> u32
     if !in_range(1, MAX_NUMBER, number) {
         return BAD_FIELD;
     }
-    if let Standing::At(_) = find(book, PLACE, head.bookings as usize, number) {
-        return 0;
+    if find(book, PLACE, head.bookings as usize, number).is_none() {
+        return NOT_STANDING;
     }
-    NOT_STANDING
+    0
 }
 
 // The number of the first check of its own that a clock move does not pass, or 0.

@@ -6,9 +6,9 @@ use Prim.Native.Nat.{ℕ, suc, ◌+◌, ◌≤◌, ◌<◌}
 use native.Mathlib.Numerals.{add-one}
 use native.Mathlib.Omega.{arith}
 use lib.Dec.{ltb, eqb}
-use lib.ListN.{length, get_or, set, take, drop, replicate, get_or-replicate}
-use lib.Seq.{get_or-set_same, get_or-set_other, drop-cons, get_or-take, length-take-le}
-use borrow.Author.Tests.{lt-ltb, le-ltb, le-leb, lt-leb, eq-eqb, ne_eqb}
+use lib.ListN.{length, get_or, set, drop, replicate, get_or-replicate}
+use lib.Seq.{get_or-set_same, get_or-set_other, drop-cons}
+use borrow.Author.Tests.{lt-ltb, le-ltb, le-leb, eq-eqb, ne_eqb}
 use Rattle.units.specs.Limits.{last_node, most_hops}
 use Rattle.units.specs.Lists.{member}
 use Rattle.units.proofs.Tests.{Order, less, same, more, order}
@@ -45,15 +45,12 @@ marks_more marks met v h m n k = by (order n v)
 -- ---- the links of a path
 
 module _ (g : Graph) (path : List ℕ) where
-  pub path_none : length path < 1 → path_ok g path ≡ false
-  path_none h = simp (lt-leb 1 (length path) h)
-
   pub path_some : 1 ≤ length path → length path ≤ most_hops → path_ok g path ≡ goes_on g (first_node g path) (first_node g path ∷ []) path
   path_some h k = simp (le-leb 1 (length path) h, le-leb (length path) most_hops k)
 
--- the next of the first `count` links, and those behind it
-pub path_rest : (links : List ℕ) (count i : ℕ) → i < count → count ≤ length links → drop i (take count links) ≡ get_or links i 0 ∷ drop (i + 1) (take count links)
-path_rest links count i h k = rw add-one (drop-cons (take count links) i 0 (rw length-take-le h) ∙ ap (λ l. l ∷ drop (suc i) (take count links)) (get_or-take count links i 0 h))
+-- the next of the links, and those behind it
+pub links_rest : (links : List ℕ) (i : ℕ) → i < length links → drop i links ≡ get_or links i 0 ∷ drop (i + 1) links
+links_rest links i h = rw add-one (drop-cons links i 0 h)
 
 module _ (t : LinkTable) (l : ℕ) where
   pub from_node : LinksRight t → l < t.count → get_or t.from l 0 ≤ last_node

@@ -7,8 +7,10 @@ use Prim.Native.Nat.{ℕ, zero, suc, ◌+◌, ◌-◌, ◌*◌, ◌≤◌, ◌<�
 use native.Mathlib.Numerals.{add-one}
 use native.Mathlib.Omega.{arith}
 use lib.Dec.{ltb, eqb}
-use lib.ListN.{length, get_or, take, drop, replicate, length-take, length-drop, take-append-drop, drop_of_length-le}
-use lib.Seq.{drop-cons, take_at, drop_at, length-take-le}
+use lib.ListN.{length, take, drop, replicate, length-take, length-drop, take-append-drop}
+use lib.Seq.{take_at, drop_at, length-take-le}
+use Rattle.std.specs.List.{list_all}
+use Rattle.std.proofs.lemmas.List.Recursion.{same_from_clauses}
 use Rattle.units.specs.declared.Link.{Link}
 use Rattle.units.specs.declared.Head.{Head}
 use Rattle.units.specs.Limits.{most_hops, most_bookings, place_size}
@@ -28,13 +30,9 @@ use Rattle.rules.proofs.Tests.{booking_tells}
 
 -- ---- zeros
 
-pub zeros_here : (i : ℕ) (l : List ℕ) → i < length l → zeros_from i l ≡ (eqb (get_or l i 0) 0 && zeros_from (i + 1) l)
+pub zeros_walked : (i : ℕ) (l : List ℕ) → list_all (λ x. eqb x 0) (drop i l) ≡ zeros_from i l
 unfolding zeros_from all
-zeros_here i l h = rw add-one (ap (all (λ x. eqb x 0)) (drop-cons l i 0 h))
-
-pub zeros_past : (i : ℕ) (l : List ℕ) → length l ≤ i → zeros_from i l ≡ true
-unfolding zeros_from all
-zeros_past i l h = ap (all (λ x. eqb x 0)) (drop_of_length-le l h)
+zeros_walked i l = same_from_clauses (list_all (λ x. eqb x 0)) (all (λ x. eqb x 0)) (λ x b. eqb x 0 && b) refl (λ _ _. refl) (λ _ _. refl) (drop i l)
 
 all_zeros_tell : (l : List ℕ) → Tells (all (λ x. eqb x 0) l) (l ≡ replicate (length l) 0)
 unfolding all

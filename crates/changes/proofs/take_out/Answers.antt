@@ -17,4 +17,4 @@ returns-in_default c =
 
 pub release_place-requires : goal.release_place-requires
 release_place-requires c =
-    record { fine = c.requires.fine; found = sym c.find.ensures ∙ c.in-At.is }
+    record { fine = c.requires.fine; found = sym c.find.ensures ∙ c.in-Some.is }

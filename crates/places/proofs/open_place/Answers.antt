@@ -1,9 +1,7 @@
--- `open_place` meets its contract: the part from the place on is moved up by a place.
-use native.Mathlib.Omega.{arith}
-use Rattle.places.proofs.Opening.{place_opened}
+-- `open_place` meets its contract: the places from the opened one on are moved up.
+use mathlib.Core.Path.{◌∙◌}
+use Rattle.places.proofs.Moving.{moved_up}
 use Rattle.places.proofs.open_place.Goals as goal
 
 pub returns : goal.returns
-returns c =
-    let a = c.args in
-    place_opened a.size a.place a.book.now (omega arith) c.shift_up.ensures
+returns c = let a = c.args in c.copy_within.ensures.after ∙ moved_up a.size a.place a.book.now c.requires

@@ -27,19 +27,20 @@ returns-then-refusal-ne0 c =
     let n = sym c.in_range.ensures ∙ c.if-not-in_range.false in
     o.ensures ∙ sym (stopped_as_offer a.head a.book.now a.number a.request n (λ e. c.if-refusal-ne0.true (o.ensures ∙ e)))
 
-pub returns-in-At : goal.returns-in-At
-returns-in-At c =
+pub returns-then-is_some : goal.returns-then-is_some
+returns-then-is_some c =
     let a = c.args in
-    sym (number_stands a.head a.book.now a.number a.request (in_order (goal.at.returns-in-At c).Else-refusal-ne0) (offered (goal.at.returns-in-At c).Else-refusal-ne0) (stands_found a.head a.book.now a.number (sym c.find.ensures ∙ c.in-At.is)))
+    let stands = stands_found a.head a.book.now a.number (sym c.find.ensures) ∙ sym c.is_some.ensures ∙ c.if-is_some.true in
+    sym (number_stands a.head a.book.now a.number a.request (in_order (goal.at.returns-then-is_some c).Else-refusal-ne0) (offered (goal.at.returns-then-is_some c).Else-refusal-ne0) stands)
 
 pub returns-then-count-ge-BOOKINGS : goal.returns-then-count-ge-BOOKINGS
 returns-then-count-ge-BOOKINGS c =
     let a = c.args in
-    let none = stands_found a.head a.book.now a.number (sym c.find.ensures ∙ c.in_default.is) in
+    let none = stands_found a.head a.book.now a.number (sym c.find.ensures) ∙ sym c.is_some.ensures ∙ c.if-is_some.false in
     sym (book_full a.head a.book.now a.number a.request (in_order (goal.at.returns-then-count-ge-BOOKINGS c).Else-refusal-ne0) (offered (goal.at.returns-then-count-ge-BOOKINGS c).Else-refusal-ne0) none c.if-count-ge-BOOKINGS.true)
 
 pub returns : goal.returns
 returns c =
     let a = c.args in
-    let none = stands_found a.head a.book.now a.number (sym c.find.ensures ∙ c.in_default.is) in
+    let none = stands_found a.head a.book.now a.number (sym c.find.ensures) ∙ sym c.is_some.ensures ∙ c.if-is_some.false in
     sym (booking_passes a.head a.book.now a.number a.request (in_order (goal.at.returns c).Else-refusal-ne0) (offered (goal.at.returns c).Else-refusal-ne0) none c.if-count-ge-BOOKINGS.false)
