@@ -14,7 +14,7 @@ use desk_core::set_up;
 use layout::{LEAD_BYTES, LINK_BYTES, LinkRecord};
 use record::gcr_read_link;
 use report::{Report, write_line};
-use units::{BAD_LENGTH, BAD_SIZE, Head, LINKS, LinkTable, PATH_LINKS, empty_table, put};
+use units::{BAD_LENGTH, BAD_SIZE, Head, LINKS, LinkTable, empty_table, put};
 
 // The links of a session's first bytes; where the refusal number is not 0 they say nothing.
 #[derive(Clone, Copy)]
@@ -140,5 +140,5 @@ pub fn write_opened(out: &mut [u8], refusal: u32, links: u32) -> usize
     ensures wrote { Wrote (line 0 (desk_report refusal links) []) out.old 0 out.new result }
     ensures upper_bound { result ≤ max_line }
 {
-    write_line(out, 0, 0, desk_report(refusal, links), [0; PATH_LINKS], 0)
+    write_line(out, 0, 0, desk_report(refusal, links), &[])
 }
