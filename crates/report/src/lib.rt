@@ -29,7 +29,8 @@ const CANCELLED: u32 = 4;
 
 const CLOCK: u32 = 5;
 
-// What a line says. The order's place and the path stand beside it.
+// What a line says. The order's place and the path stand beside it. A refusal stands as its number, since a program in
+// another language hands any figure over.
 #[derive(Clone, Copy)]
 pub enum Report {
     DeskLinks(u32),
@@ -50,7 +51,7 @@ struct LineWriter<'a> {
 
 impl LineWriter<'_> {
     // Writes bytes as they are.
-    fn bytes(&mut self, bytes: &[u8])
+    fn write_bytes(&mut self, bytes: &[u8])
         requires { HasRoom bytes.now self.old }
         ensures { Writes bytes.now self.old self.new }
     {
@@ -61,74 +62,74 @@ impl LineWriter<'_> {
 
     // Writes a number in decimal.
     #[tactic(auto, using(crate::proofs::Decimals::as_printed))]
-    fn number(&mut self, value: u64)
+    fn write_decimal(&mut self, value: u64)
         requires { HasRoom (decimal value) self.old }
         ensures { Writes (decimal value) self.old self.new }
     {
         let mut digits = Buffer::new();
-        self.bytes(digits.format(value).as_bytes());
+        self.write_bytes(digits.format(value).as_bytes());
     }
 
     // Writes a word and the number behind it.
-    fn field(&mut self, word: &[u8], value: u32)
+    fn write_field(&mut self, word: &[u8], value: u32)
         requires { HasRoom (word.now ++ decimal value) self.old }
         ensures { Writes (word.now ++ decimal value) self.old self.new }
     {
-        self.bytes(word);
-        self.number(value as u64);
+        self.write_bytes(word);
+        self.write_decimal(value as u64);
     }
 
     // Writes link numbers in their order, a space before each.
-    fn links(&mut self, links: &[u32])
+    fn write_links(&mut self, links: &[u32])
         requires { HasRoom (numbers links.now) self.old }
         ensures { Writes (numbers links.now) self.old self.new }
     {
         for &link in links {
-            self.field(b" ", link);
+            self.write_field(b" ", link);
         }
     }
 
     // Writes a start minute and the link numbers of its path.
     #[tactic(auto, unfolding(crate::specs::Line::route))]
-    fn route(&mut self, start: Minute, links: &[u32])
+    fn write_route(&mut self, start: Minute, links: &[u32])
         requires { HasRoom (route start links.now) self.old }
         ensures { Writes (route start links.now) self.old self.new }
     {
-        self.field(b" start ", start.0);
-        self.bytes(b" links");
-        self.links(links);
+        self.write_field(b" start ", start.0);
+        self.write_bytes(b" links");
+        self.write_links(links);
     }
 
     // Writes an order's place, a word and the number behind it.
-    fn placed(&mut self, place: u64, word: &[u8], value: u32)
+    fn write_placed(&mut self, place: u64, word: &[u8], value: u32)
         requires { HasRoom (decimal place ++ (word.now ++ decimal value)) self.old }
         ensures { Writes (decimal place ++ (word.now ++ decimal value)) self.old self.new }
     {
-        self.number(place);
-        self.field(word, value);
+        self.write_decimal(place);
+        self.write_field(word, value);
     }
 
     // Writes a line without its end.
     #[tactic(auto, unfolding(crate::specs::Line::answer))]
-    fn answer(&mut self, place: u64, report: Report, links: &[u32])
+    fn write_answer(&mut self, place: u64, report: Report, links: &[u32])
         requires { HasRoom (answer place report links.now) self.old }
         ensures { Writes (answer place report links.now) self.old self.new }
     {
         match report {
-            Report::DeskLinks(count) => self.field(b"desk links ", count),
-            Report::DeskRefused(refusal) => self.field(b"desk refused ", refusal),
+            Report::DeskLinks(count) => self.write_field(b"desk links ", count),
+            Report::DeskRefused(refusal) => self.write_field(b"desk refused ", refusal),
             Report::Booked(number, start) => {
-                self.placed(place, b" booked ", number);
-                self.route(start, links);
+                self.write_placed(place, b" booked ", number);
+                self.write_route(start, links);
             }
             Report::Offered(start) => {
-                self.number(place);
-                self.bytes(b" offer");
-                self.route(start, links);
+                self.write_decimal(place);
+                self.write_bytes(b" offer");
+                self.write_route(start, links);
             }
-            Report::Cancelled(number) => self.placed(place, b" cancelled ", number),
-            Report::Clock(minute) => self.placed(place, b" clock ", minute.0),
-            Report::Refused(refusal) => self.placed(place, b" refused ", refusal),
+            Report::Cancelled(number) => self.write_placed(place, b" cancelled ", number),
+            Report::Clock(minute) => self.write_placed(place, b" clock ", minute.0),
+            Report::Refused(refusal) => self.write_placed(place, b" refused ", refusal),
         }
     }
 }
@@ -142,8 +143,8 @@ pub fn write_line(out: &mut [u8], at: usize, place: u64, report: Report, links: 
     ensures upper_bound { result ≤ at + max_line }
 {
     let mut writer = LineWriter { out, at };
-    writer.answer(place, report, links);
-    writer.bytes(b"\n");
+    writer.write_answer(place, report, links);
+    writer.write_bytes(b"\n");
     writer.at
 }
 
@@ -170,8 +171,8 @@ fn has_room(size: usize, at: usize, links: usize) -> bool
     MAX_LINE <= size && at <= size - MAX_LINE && links <= PATH_LINKS
 }
 
-// Writes a line as `write_line` does, for a program in another language: the report by its kind, and the path as its
-// links alone. Where there is no room for the longest line or the path is too long it writes nothing and answers `at`.
+// Writes a line as `write_line` does, for a program in another language: the report by its kind. Where there is no room
+// for the longest line or the path is too long it writes nothing and answers `at`.
 pub fn gcr_write_line(
     out: &mut [u8],
     at: usize,
