@@ -14,7 +14,7 @@ use desk_core::set_up;
 use layout::{LEAD_BYTES, LINK_BYTES};
 use reading::read_link;
 use report::{Report, write_line};
-use units::{Head, LINKS, LinkTable, PATH_LINKS, Refusal, empty_table, put};
+use units::{Head, LINKS, LinkTable, Refusal, empty_table, put};
 
 // A desk that was opened: the refusal number, 0 if there is none, its head and its links.
 #[derive(Clone, Copy)]
@@ -103,5 +103,5 @@ pub fn write_opened(out: &mut [u8], refusal: u32, links: u32) -> usize
     ensures wrote { Wrote (line 0 (desk_report refusal links) []) out.old 0 out.new result }
     ensures upper_bound { result ≤ max_line }
 {
-    write_line(out, 0, 0, desk_report(refusal, links), [0; PATH_LINKS], 0)
+    write_line(out, 0, 0, desk_report(refusal, links), &[])
 }

@@ -204,6 +204,7 @@ pub fn answer_order(
 }
 
 // Answers any bytes as an order and writes its line from index `at` on.
+#[tactic(auto, using(crate::proofs::Short::ordered_short))]
 pub fn run_order(
     bytes: &[u8],
     head: Head,
@@ -221,10 +222,10 @@ pub fn run_order(
     ensures next_bound { result.next ≤ at + max_line }
 {
     let answer = answer_order(bytes, head, links, events, free, book);
-    let after = answer.head;
-    let report = answer.report;
-    let path = answer.path;
-    let hops = path.links;
-    let next = write_line(out, at, place, report, hops, path.count);
-    Line { head: after, next }
+    let count = answer.path.count as usize;
+    let next = write_line(out, at, place, answer.report, &answer.path.links[..count]);
+    Line {
+        head: answer.head,
+        next,
+    }
 }
