@@ -2,7 +2,6 @@
 
 ghost use Rattle.free_table.specs.Looking.{TablesSized};
 
-use crate::{enough, lasting_in_rows};
 use timeline::row_at;
 use units::{Bandwidth, LINKS, LinkNumber, Minute, ROW};
 
@@ -18,16 +17,28 @@ impl FreeTable<'_> {
     ghost use Rattle.std.specs.Prelude.{◌≡◌, ◌<◌};
     ghost use Rattle.units.specs.Limits.{most_links};
     ghost use Rattle.free_table.specs.Figures.{kept};
-    ghost use Rattle.free_table.specs.Looking.{enough_span, Marks};
+    ghost use Rattle.free_table.specs.Looking.{span_rows, enough_span, Marks};
 
     // The bandwidth that a link has free in a minute.
+    #[tactic(auto, using(timeline::proofs::Rows::row_inside))]
     pub fn figure(&self, link: LinkNumber, minute: Minute) -> Bandwidth
         requires { link.0 < most_links }
         ensures { result.0 ≡ kept self.now.events.now self.now.figures.now link.0 minute.0 }
     {
         let row = row_at(self.events, minute);
-        let at = row * ROW + link.0 as usize;
-        Bandwidth(self.figures[at])
+        Bandwidth(self.figures[row * ROW + link.0 as usize])
+    }
+
+    // The rows that hold in the minutes from start to end - 1.
+    #[tactic(auto, using(timeline::proofs::Rows::row_inside, timeline::proofs::Rows::row_later))]
+    fn rows(&self, start: Minute, end: Minute) -> &[[u32; ROW]]
+        requires { start.0 < end.0 }
+        ensures { result.now ≡ span_rows self.now.events.now start.0 end.0 self.now.figures.now }
+    {
+        let first = row_at(self.events, start);
+        let last = row_at(self.events, Minute(end.0 - 1));
+        let (rows, _) = self.figures.as_chunks::<ROW>();
+        &rows[first..=last]
     }
 
     // Whether one link has the bandwidth free in every minute from start to end - 1.
@@ -42,10 +53,10 @@ impl FreeTable<'_> {
         requires ends_later { start.0 < end.0 }
         ensures { result ≡ enough_span self.now.events.now start.0 end.0 link.0 bandwidth.0 self.now.figures.now }
     {
-        let first = row_at(self.events, start);
-        let last = row_at(self.events, Minute(end.0 - 1));
-        let from = first * ROW;
-        enough(&self.figures[from..], last - first + 1, link, bandwidth)
+        let column = link.0 as usize;
+        self.rows(start, end)
+            .iter()
+            .all(|row| bandwidth.0 <= row[column])
     }
 
     // The links that have the bandwidth free in every minute from start to end - 1.
@@ -53,9 +64,13 @@ impl FreeTable<'_> {
         requires { start.0 < end.0 }
         ensures { Marks result (λ l. enough_span self.now.events.now start.0 end.0 l bandwidth.0 self.now.figures.now) }
     {
-        let first = row_at(self.events, start);
-        let end_row = row_at(self.events, Minute(end.0 - 1));
-        let from = first * ROW;
-        lasting_in_rows(&self.figures[from..], end_row - first + 1, bandwidth)
+        let rows = self.rows(start, end);
+        let mut marked = [true; LINKS];
+        for row in rows {
+            for (link, mark) in marked.iter_mut().enumerate() {
+                *mark &= bandwidth.0 <= row[link];
+            }
+        }
+        marked
     }
 }

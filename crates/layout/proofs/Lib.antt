@@ -1,6 +1,7 @@
 -- Laws of the definitions of `specs/`.
 pub mod Fields
 pub mod Packing
+pub mod Library
 pub mod Written
 pub mod Reading
 pub mod Refusals

@@ -83,7 +83,7 @@ pack_parts (v ∷ vs) ws (f ∷ fs) gs l =
     rw (sum_parts vs ws, add_comm (sum ws) (sum vs), pow-add 2 (sum vs) (sum ws), pack_parts vs ws fs gs (omega arith)) (simp (add-mul, mul_assoc, add_assoc))
 
 -- the bytes of a number are fields of 8 bits
-byte_powers : (n : ℕ) → 256 ^ n ≡ 2 ^ sum (replicate n 8)
+pub byte_powers : (n : ℕ) → 256 ^ n ≡ 2 ^ sum (replicate n 8)
 unfolding sum
 byte_powers zero = refl
 byte_powers (suc n) = pow-suc 256 n ∙ ap (λ x. x * 256) (byte_powers n) ∙ mul_comm _ 256 ∙ sym (pow-add 2 8 (sum (replicate n 8)))

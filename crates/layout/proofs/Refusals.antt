@@ -6,9 +6,9 @@ use mathlib.Core.Bool.{Bool, true, false, true≢false, ◌&&◌}
 use Prim.Native.Nat.{ℕ, ◌^◌, ◌<◌}
 use lib.Dec.{eqb}
 use borrow.Author.Tests.{eqb-true, eqb-false, not-false, lt-ltb}
+use Rattle.std.specs.Prelude.{Option, None, Some}
+use Rattle.units.specs.declared.Minute.{Minute}
 use Rattle.units.specs.declared.Link.{Link}
-use Rattle.layout.specs.declared.Latest.{Latest}
-use Rattle.layout.specs.declared.Latest.TheVariants.{Open, Given}
 use Rattle.layout.specs.declared.OrderFields.{OrderFields}
 use Rattle.layout.specs.declared.OrderForm.{OrderForm}
 use Rattle.layout.specs.Layout.{fits, order_widths, link_widths}
@@ -55,7 +55,7 @@ room f r =
 
 -- a figure is too large for its field, or the latest start is given as all ones
 abbrev pub Untold : OrderForm → Type 0
-Untold form = (Roomy (form_fields form) → ⊥) ⊎ (form.wish.latest ≡ Given (record { 0 = 1073741823 }))
+Untold form = (Roomy (form_fields form) → ⊥) ⊎ (form.wish.latest ≡ Some (record { 0 = 1073741823 }))
 
 -- the first reason that applies, and no refusal without one
 abbrev pub Ruled : ℕ → OrderForm → ℕ → Type 0
@@ -65,9 +65,9 @@ Ruled count form r =
     ⊎ ((count ≡ 16) × (Wrong (form_fields form) → ⊥) × Untold form × (r ≡ 4))
     ⊎ ((count ≡ 16) × (Wrong (form_fields form) → ⊥) × (Untold form → ⊥) × (r ≡ 0))
 
-given_ones : (l : Latest) → tellable l ≡ false → l ≡ Given (record { 0 = 1073741823 })
-given_ones Open e = absurd (true≢false e)
-given_ones (Given m) e = ap (λ n. Given (record { 0 = n })) (eqb-true m.0 all_ones (not-false (eqb m.0 all_ones) e))
+given_ones : (l : Option Minute) → tellable l ≡ false → l ≡ Some (record { 0 = 1073741823 })
+given_ones None e = absurd (true≢false e)
+given_ones (Some m) e = ap (λ n. Some (record { 0 = n })) (eqb-true m.0 all_ones (not-false (eqb m.0 all_ones) e))
 
 -- whether a form can be told, by its two tests
 untold : (form : OrderForm) (s t : Bool) → fits order_widths (order_figures (form_fields form)) ≡ s → tellable form.wish.latest ≡ t → (s && t) ≡ false → Untold form

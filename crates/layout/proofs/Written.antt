@@ -1,5 +1,5 @@
 -- What the writer refuses and what it leaves: the definition taken apart.
-use mathlib.Core.Path.{◌≡◌, refl}
+use mathlib.Core.Path.{◌≡◌, refl, sym, ◌∙◌, ap}
 use mathlib.Core.Logic.{◌≢◌}
 use mathlib.Core.List.{List}
 use mathlib.Core.Bool.{Bool, true, false, and-eq-true_iff}
@@ -8,10 +8,14 @@ use native.Mathlib.Omega.{arith}
 use lib.Dec.{eqb}
 use lib.ListN.{length}
 use borrow.Author.Tests.{eqb-true, eq-eqb, ne_eqb}
+use Rattle.std.specs.Prelude.{Result, Ok, Err, is_ok}
 use Rattle.units.specs.declared.Link.{Link}
+use Rattle.units.specs.declared.Refusal.{Refusal}
+use Rattle.units.specs.declared.Refusal.TheVariants.{BadSize, BadLink, Unsound, BadField, TooLate, NumberStands, BookFull, NoStart, NotStanding, ClockBack, BadBits, BadLength, BadList}
+use Rattle.units.specs.Refusals.{number, number_of}
 use Rattle.layout.specs.declared.OrderForm.{OrderForm}
 use Rattle.layout.specs.Layout.{pack, fits, spelled, order_widths, link_widths}
-use Rattle.layout.specs.Records.{if_passed, order_from, is_order}
+use Rattle.layout.specs.Records.{if_passed, order_from}
 use Rattle.layout.specs.Forms.{tellable, form_fields, order_figures, form_fits, order_refusal, order_written, link_figures, link_refusal, link_written}
 
 -- no refusal behind a test: it passes, and nothing behind it refuses
@@ -19,11 +23,35 @@ passed : (t : Bool) (x k : ℕ) → k ≢ 0 → if_passed t x k ≡ 0 → (t ≡
 passed true x k n e = (refl, e)
 passed false x k n e = absurd (n e)
 
+-- no refusal has the number of an accepted call
+numbered : (refusal : Refusal) → number refusal ≢ 0
+numbered BadSize z = omega arith
+numbered BadLink z = omega arith
+numbered Unsound z = omega arith
+numbered BadField z = omega arith
+numbered TooLate z = omega arith
+numbered NumberStands z = omega arith
+numbered BookFull z = omega arith
+numbered NoStart z = omega arith
+numbered NotStanding z = omega arith
+numbered ClockBack z = omega arith
+numbered BadBits z = omega arith
+numbered BadLength z = omega arith
+numbered BadList z = omega arith
+
+-- what a check that answers this number found
+module _ {A : Type 0} {r : Result A Refusal} {k : ℕ} (e : number_of r ≡ k) where
+  pub none_found : {x : A} → r ≡ Ok x → k ≡ 0
+  none_found q = sym e ∙ ap number_of q
+
+  pub some_found : {refusal : Refusal} → r ≡ Err refusal → k ≢ 0
+  some_found {refusal} q z = numbered refusal (sym (ap number_of q) ∙ e ∙ z)
+
 -- what is not refused: a piece of the right length, a form that the reader takes for an order, figures that fit, and a latest start that
 -- is read back
 pub record Writable (count : ℕ) (form : OrderForm) : Type 0 where
   pub sized : count ≡ 16
-  pub known : is_order (order_from (form_fields form)) ≡ true
+  pub known : is_ok (order_from (form_fields form)) ≡ true
   pub room : fits order_widths (order_figures (form_fields form)) ≡ true
   pub told : tellable form.wish.latest ≡ true
 
@@ -31,7 +59,7 @@ pub writable : (count : ℕ) (form : OrderForm) → order_refusal count form ≡
 unfolding order_refusal form_fits
 writable count form e =
     let a = passed (eqb count 16) _ 12 (λ z. omega arith) e in
-    let b = passed (is_order (order_from (form_fields form))) _ 11 (λ z. omega arith) a.1 in
+    let b = passed (is_ok (order_from (form_fields form))) _ 11 (λ z. omega arith) a.1 in
     let c = passed (form_fits form) 0 4 (λ z. omega arith) b.1 in
     let d = (and-eq-true_iff (fits order_widths (order_figures (form_fields form))) (tellable form.wish.latest)).0 c.0 in
     record { sized = eqb-true count 16 a.0; known = b.0; room = d.0; told = d.1 }

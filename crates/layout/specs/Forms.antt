@@ -1,29 +1,27 @@
 -- Document 02's writer: which forms are refused, and what a lent piece of bytes holds afterwards.
-use Rattle.std.specs.Prelude.{List, [], ◌∷◌, Bool, true, ◌&&◌, not, ℕ, eqb, length}
+use Rattle.std.specs.Prelude.{List, [], ◌∷◌, Bool, true, ◌&&◌, not, ℕ, eqb, length, Option, None, Some, is_ok}
 use Rattle.units.specs.Refusals.{bad_field, bad_bits, bad_length}
 use Rattle.units.specs.declared.Minute.{Minute}
 use Rattle.units.specs.declared.Link.{Link}
 use Rattle.units.specs.declared.Request.{Request}
-use Rattle.layout.specs.declared.Latest.{Latest}
-use Rattle.layout.specs.declared.Latest.TheVariants.{Open, Given}
 use Rattle.layout.specs.declared.OrderForm.{OrderForm}
 use Rattle.layout.specs.declared.OrderFields.{OrderFields}
 use Rattle.layout.specs.Layout.{pack, fits, spelled, order_widths, link_widths, order_bytes, link_bytes}
-use Rattle.layout.specs.Records.{if_passed, behind_kind, all_ones, order_from, is_order}
+use Rattle.layout.specs.Records.{if_passed, behind_kind, all_ones, order_from}
 
 -- an open latest start is written as all ones
-abbrev pub latest_field : Latest → ℕ
-latest_field Open = all_ones
-latest_field (Given m) = m.0
+abbrev pub latest_field : Option Minute → ℕ
+latest_field None = all_ones
+latest_field (Some m) = m.0
 
 -- so one that is given as all ones cannot be told: it would be read as open
-abbrev pub tellable : Latest → Bool
-tellable Open = true
-tellable (Given m) = not (eqb m.0 all_ones)
+abbrev pub tellable : Option Minute → Bool
+tellable None = true
+tellable (Some m) = not (eqb m.0 all_ones)
 
 -- the latest start that C lends: open, whatever the minute, unless the flag is 0
-abbrev pub latest_from : Minute → ℕ → Latest
-latest_from minute flag = if_passed (eqb flag 0) (Given minute) Open
+abbrev pub latest_from : Minute → ℕ → Option Minute
+latest_from minute flag = if_passed (eqb flag 0) (Some minute) None
 
 -- the form that C lends
 abbrev pub form_of : ℕ → ℕ → Request → ℕ → OrderForm
@@ -52,7 +50,7 @@ form_fits form = fits order_widths (order_figures (form_fields form)) && tellabl
 
 -- the refusal of a form for a piece of so many bytes, 0 if there is none
 unfoldable pub order_refusal : ℕ → OrderForm → ℕ
-order_refusal count form = if_passed (eqb count order_bytes) (if_passed (is_order (order_from (form_fields form))) (if_passed (form_fits form) 0 bad_field) bad_bits) bad_length
+order_refusal count form = if_passed (eqb count order_bytes) (if_passed (is_ok (order_from (form_fields form))) (if_passed (form_fits form) 0 bad_field) bad_bits) bad_length
 
 -- the piece afterwards: the record, or untouched
 unfoldable pub order_written : List ℕ → OrderForm → List ℕ

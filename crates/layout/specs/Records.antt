@@ -1,14 +1,14 @@
 -- Document 01's 'reading a record': what any bytes are read as, refusals included.
-use Rattle.std.specs.Prelude.{List, [], ◌∷◌, Bool, true, false, ◌&&◌, ◌||◌, ℕ, ◌-◌, ◌^◌, eqb, length, get_or}
-use Rattle.units.specs.Refusals.{bad_bits, bad_length}
-use Rattle.layout.specs.declared.Latest.{Latest}
-use Rattle.layout.specs.declared.Latest.TheVariants.{Open, Given}
+use Rattle.std.specs.Prelude.{List, [], ◌∷◌, Bool, true, false, ◌&&◌, ◌||◌, ℕ, ◌-◌, ◌^◌, eqb, length, get_or, Option, None, Some, Result, Ok, Err}
+use Rattle.units.specs.declared.Minute.{Minute}
+use Rattle.units.specs.declared.Link.{Link}
+use Rattle.units.specs.declared.Refusal.{Refusal}
+use Rattle.units.specs.declared.Refusal.TheVariants.{BadBits, BadLength}
 use Rattle.layout.specs.declared.Wish.{Wish}
+use Rattle.layout.specs.declared.OrderKind.{OrderKind}
+use Rattle.layout.specs.declared.OrderKind.TheVariants as kinds
+use Rattle.layout.specs.declared.Order.{Order}
 use Rattle.layout.specs.declared.Order.TheVariants.{Book, Cancel, Clock, Offer}
-use Rattle.layout.specs.declared.OrderRead.{OrderRead}
-use Rattle.layout.specs.declared.OrderRead.TheVariants as orders
-use Rattle.layout.specs.declared.LinkRead.{LinkRead}
-use Rattle.layout.specs.declared.LinkRead.TheVariants as links
 use Rattle.layout.specs.declared.OrderFields.{OrderFields}
 use Rattle.layout.specs.declared.LinkFields.{LinkFields}
 use Rattle.layout.specs.Layout.{big_endian, cut, order_widths, link_widths, order_bytes, link_bytes}
@@ -18,24 +18,16 @@ abbrev pub if_passed : {A : Type 0} → Bool → A → A → A
 if_passed true x y = x
 if_passed false x y = y
 
-pub data Kind : Type 0 where
-  book : Kind
-  cancel : Kind
-  clock : Kind
-  offer : Kind
-  unknown : Kind
-
--- the kinds by their numbers, from 0; a higher number is unknown too
-abbrev pub kind_of : ℕ → Kind
-kind_of k = get_or (unknown ∷ book ∷ cancel ∷ clock ∷ offer ∷ []) k unknown
+-- the kinds by their numbers, from 0; 0 is unknown, and a higher number too
+abbrev pub kind_of : ℕ → Result OrderKind Refusal
+kind_of k = get_or (Err BadBits ∷ Ok kinds.Book ∷ Ok kinds.Cancel ∷ Ok kinds.Clock ∷ Ok kinds.Offer ∷ []) k (Err BadBits)
 
 -- the fields that a kind uses, of number, from, to, bandwidth, duration, earliest, latest
-abbrev pub uses : Kind → List Bool
-uses book = true ∷ true ∷ true ∷ true ∷ true ∷ true ∷ true ∷ []
-uses cancel = true ∷ false ∷ false ∷ false ∷ false ∷ false ∷ false ∷ []
-uses clock = false ∷ false ∷ false ∷ false ∷ false ∷ true ∷ false ∷ []
-uses offer = false ∷ true ∷ true ∷ true ∷ true ∷ true ∷ true ∷ []
-uses unknown = []
+abbrev pub uses : OrderKind → List Bool
+uses kinds.Book = true ∷ true ∷ true ∷ true ∷ true ∷ true ∷ true ∷ []
+uses kinds.Cancel = true ∷ false ∷ false ∷ false ∷ false ∷ false ∷ false ∷ []
+uses kinds.Clock = false ∷ false ∷ false ∷ false ∷ false ∷ true ∷ false ∷ []
+uses kinds.Offer = false ∷ true ∷ true ∷ true ∷ true ∷ true ∷ true ∷ []
 
 -- every field that is not used is zero
 unfoldable pub clear : List Bool → List ℕ → Bool
@@ -64,8 +56,8 @@ behind_kind f = f.number ∷ f.from ∷ f.to ∷ f.bandwidth ∷ f.duration ∷ 
 abbrev pub all_ones : ℕ
 all_ones = 2 ^ 30 - 1
 
-abbrev pub latest_of : ℕ → Latest
-latest_of field = if_passed (eqb field all_ones) Open (Given (record { 0 = field }))
+abbrev pub latest_of : ℕ → Option Minute
+latest_of field = if_passed (eqb field all_ones) None (Some (record { 0 = field }))
 
 abbrev pub wish_of : OrderFields → Wish
 wish_of f = record {
@@ -78,32 +70,30 @@ wish_of f = record {
 }
 
 -- the order of that kind; clock's earliest holds the new minute
-abbrev pub order_of : Kind → OrderFields → OrderRead
-order_of book f = orders.Read (Book f.number (wish_of f))
-order_of cancel f = orders.Read (Cancel f.number)
-order_of clock f = orders.Read (Clock (record { 0 = f.earliest }))
-order_of offer f = orders.Read (Offer (wish_of f))
-order_of unknown f = orders.Refused bad_bits
+abbrev pub order_of : OrderKind → OrderFields → Order
+order_of kinds.Book f = Book f.number (wish_of f)
+order_of kinds.Cancel f = Cancel f.number
+order_of kinds.Clock f = Clock (record { 0 = f.earliest })
+order_of kinds.Offer f = Offer (wish_of f)
 
--- the same, refused where a field is set that the kind does not use
-unfoldable pub order_from : OrderFields → OrderRead
-order_from f = if_passed (clear (uses (kind_of f.kind)) (behind_kind f)) (order_of (kind_of f.kind) f) (orders.Refused bad_bits)
+-- the same, refused where the kind is unknown, or a field is set that it does not use
+abbrev pub order_by : Result OrderKind Refusal → OrderFields → Result Order Refusal
+order_by (Ok kind) f = if_passed (clear (uses kind) (behind_kind f)) (Ok (order_of kind f)) (Err BadBits)
+order_by (Err refusal) f = Err refusal
+
+unfoldable pub order_from : OrderFields → Result Order Refusal
+order_from f = order_by (kind_of f.kind) f
 
 -- what any bytes are read as
-unfoldable pub order_read : List ℕ → OrderRead
-order_read bytes = if_passed (eqb (length bytes) order_bytes) (order_from (order_fields (cut order_widths (big_endian bytes)))) (orders.Refused bad_length)
-
--- whether an order was read
-abbrev pub is_order : OrderRead → Bool
-is_order (orders.Read order) = true
-is_order (orders.Refused number) = false
+unfoldable pub order_read : List ℕ → Result Order Refusal
+order_read bytes = if_passed (eqb (length bytes) order_bytes) (order_from (order_fields (cut order_widths (big_endian bytes)))) (Err BadLength)
 
 -- the fields of a link by name
 abbrev pub link_fields : List ℕ → LinkFields
 link_fields fields = record { from = get_or fields 0 0; to = get_or fields 1 0; capacity = get_or fields 2 0; zero = get_or fields 3 0 }
 
-unfoldable pub link_from : LinkFields → LinkRead
-link_from f = if_passed (eqb f.zero 0) (links.Read (record { from = f.from; to = f.to; capacity = record { 0 = f.capacity } })) (links.Refused bad_bits)
+unfoldable pub link_from : LinkFields → Result Link Refusal
+link_from f = if_passed (eqb f.zero 0) (Ok (record { from = f.from; to = f.to; capacity = record { 0 = f.capacity } })) (Err BadBits)
 
-unfoldable pub link_read : List ℕ → LinkRead
-link_read bytes = if_passed (eqb (length bytes) link_bytes) (link_from (link_fields (cut link_widths (big_endian bytes)))) (links.Refused bad_length)
+unfoldable pub link_read : List ℕ → Result Link Refusal
+link_read bytes = if_passed (eqb (length bytes) link_bytes) (link_from (link_fields (cut link_widths (big_endian bytes)))) (Err BadLength)

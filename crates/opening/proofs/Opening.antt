@@ -1,14 +1,17 @@
 -- The start of a session: the number of the first check that its first bytes do not pass, and the set-up where they pass all.
 use mathlib.Core.Path.{◌≡◌, refl, sym, ◌∙◌, ap, ap₂}
 use mathlib.Core.List.{List, []}
-use mathlib.Core.Bool.{Bool}
-use Prim.Native.Nat.{ℕ, suc, ◌+◌, ◌*◌, ◌<◌, ◌≤◌}
-use native.Mathlib.Omega.{arith}
+use mathlib.Core.Bool.{Bool, true, false}
+use Prim.Native.Nat.{ℕ, ◌+◌, ◌*◌, ◌<◌, ◌≤◌}
 use borrow.Author.Tests.{eq-eqb, ne_eqb, le-leb, lt-leb}
 use lib.ListN.{length}
+use Rattle.std.specs.Prelude.{Result, Err}
 use Rattle.units.specs.declared.Head.{Head}
+use Rattle.units.specs.declared.Refusal.{Refusal}
+use Rattle.units.specs.declared.Refusal.TheVariants.{BadSize, BadLength}
+use Rattle.units.specs.Refusals.{number}
 use Rattle.units.specs.Limits.{most_links}
-use Rattle.units.specs.Lists.{count_from}
+use Rattle.units.specs.Lists.{within, count_from}
 use Rattle.layout.specs.Layout.{link_bytes}
 use Rattle.layout.specs.Records.{if_passed}
 use Rattle.units.specs.declared.LinkTable.{LinkTable}
@@ -17,44 +20,36 @@ use Rattle.rules.specs.Calls.{set_up}
 use Rattle.rules.specs.Tables.{Tables, lent}
 use Rattle.units.specs.LinkTables.{links_of, columns, empty_table}
 use Rattle.desk_core.specs.Lent.{refusal_answer, tables_after}
-use Rattle.opening.specs.declared.LinksFound.{LinksFound}
 use Rattle.opening.specs.Opened.{links_refusal, links_in, first_byte, bytes_refusal, Opened, by_set_up, opened, Found}
 use Rattle.desk_core.proofs.Handed.{Back}
 
 module _ (bytes : List ℕ) where
-  abbrev pub Given : LinksFound → Type 0
+  abbrev pub Given : Result LinkTable Refusal → Type 0
   Given r = Found (bytes_refusal bytes) (links_in bytes (first_byte bytes)) r
 
-  refused : (k : ℕ) {r : LinksFound} → r.refusal ≡ suc k → bytes_refusal bytes ≡ suc k → Given r
-  refused k {r} e b = record { refusal_is = e ∙ sym b; links_are = λ z. absurd (omega arith) }
+  refused : (refusal : Refusal) → bytes_refusal bytes ≡ number refusal → Given (Err refusal)
+  refused refusal b = record { refusal_is = sym b; links_are = tt }
 
-  pub no_byte : {r : LinksFound} → r.refusal ≡ 12 → length bytes ≡ 0 → Given r
+  pub no_byte : length bytes ≡ 0 → Given (Err BadLength)
   unfolding bytes_refusal
-  no_byte e h = refused 11 e (simp (eq-eqb (length bytes) 0 h))
+  no_byte h = refused BadLength (simp (eq-eqb (length bytes) 0 h))
 
   module _ (some : length bytes ≡ 0 → ⊥) where
-    pub count_zero : {r : LinksFound} → r.refusal ≡ 1 → first_byte bytes < 1 → Given r
+    pub out_of_range : within 1 most_links (first_byte bytes) ≡ false → Given (Err BadSize)
     unfolding bytes_refusal
-    count_zero e h = refused 0 e (simp (ne_eqb (length bytes) 0 some, lt-leb 1 (first_byte bytes) h))
+    out_of_range h = refused BadSize (rw (ne_eqb (length bytes) 0 some, h))
 
-    module _ (low : 1 ≤ first_byte bytes) where
-      pub count_high : {r : LinksFound} → r.refusal ≡ 1 → most_links < first_byte bytes → Given r
+    module _ (inside : within 1 most_links (first_byte bytes) ≡ true) where
+      pub too_short : length bytes < 1 + first_byte bytes * link_bytes → Given (Err BadLength)
       unfolding bytes_refusal
-      count_high e h = refused 0 e (simp (ne_eqb (length bytes) 0 some, le-leb 1 (first_byte bytes) low, lt-leb (first_byte bytes) most_links h))
+      too_short h = refused BadLength (rw (ne_eqb (length bytes) 0 some, inside, lt-leb (1 + first_byte bytes * link_bytes) (length bytes) h))
 
-      module _ (high : first_byte bytes ≤ most_links) where
-        pub too_short : {r : LinksFound} → r.refusal ≡ 12 → length bytes < 1 + first_byte bytes * link_bytes → Given r
-        unfolding bytes_refusal
-        too_short e h =
-            refused 11 e
-            (simp (ne_eqb (length bytes) 0 some, le-leb 1 (first_byte bytes) low, le-leb (first_byte bytes) most_links high, lt-leb (1 + first_byte bytes * link_bytes) (length bytes) h))
-
-        pub by_records : {r : LinksFound} → 1 + first_byte bytes * link_bytes ≤ length bytes → Found (links_refusal bytes (first_byte bytes)) (links_in bytes (first_byte bytes)) r → Given r
-        unfolding bytes_refusal
-        by_records {r} h f = record { refusal_is = f.refusal_is ∙ sym is; links_are = f.links_are }
-          where
-            is : bytes_refusal bytes ≡ links_refusal bytes (first_byte bytes)
-            is = simp (ne_eqb (length bytes) 0 some, le-leb 1 (first_byte bytes) low, le-leb (first_byte bytes) most_links high, le-leb (1 + first_byte bytes * link_bytes) (length bytes) h)
+      pub by_records : {r : Result LinkTable Refusal} → 1 + first_byte bytes * link_bytes ≤ length bytes → Found (links_refusal bytes (first_byte bytes)) (links_in bytes (first_byte bytes)) r → Given r
+      unfolding bytes_refusal
+      by_records {r} h f = record { refusal_is = f.refusal_is ∙ sym is; links_are = f.links_are }
+        where
+          is : bytes_refusal bytes ≡ links_refusal bytes (first_byte bytes)
+          is = rw (ne_eqb (length bytes) 0 some, inside, le-leb (1 + first_byte bytes * link_bytes) (length bytes) h)
 
   module _ (t : Tables) where
     abbrev by_test : Bool → Opened

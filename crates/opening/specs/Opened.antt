@@ -1,12 +1,13 @@
 -- Document 01's start of a session: the first byte, the links, then the set-up, each check in its order.
-use Rattle.std.specs.Prelude.{◌≡◌, List, [], map, Bool, not, ℕ, ◌+◌, ◌*◌, leb, eqb, length, get_or, take, drop}
+use Rattle.std.specs.Prelude.{◌≡◌, List, [], map, Bool, ℕ, ◌+◌, ◌*◌, leb, eqb, length, get_or, take, drop, Result, IfOk, is_err}
 use Rattle.units.specs.declared.Link.{Link}
 use Rattle.units.specs.Limits.{most_links}
 use Rattle.units.specs.Lists.{within, count_from}
 use Rattle.units.specs.Search as search
-use Rattle.layout.specs.declared.LinkRecord.{LinkRecord}
+use Rattle.units.specs.declared.LinkTable.{LinkTable}
+use Rattle.units.specs.declared.Refusal.{Refusal}
 use Rattle.layout.specs.Layout.{lead_bytes, link_bytes}
-use Rattle.units.specs.Refusals.{bad_size, bad_length}
+use Rattle.units.specs.Refusals.{bad_size, bad_length, number_of}
 use Rattle.layout.specs.Records.{if_passed, link_read}
 use Rattle.layout.specs.Values.{link_values}
 use Rattle.report.specs.declared.Report.{Report}
@@ -16,19 +17,18 @@ use Rattle.rules.specs.Calls.{set_up, values}
 use Rattle.rules.specs.Tables.{Tables}
 use Rattle.rules.specs.Desk.{Outcome, outcome}
 use Rattle.units.specs.LinkTables.{links_of}
-use Rattle.opening.specs.declared.LinksFound.{LinksFound}
 use Rattle.opening.specs.declared.Opened.{Opened as OpenedDesk}
 
--- the record of link i, behind the first byte
-unfoldable pub link_record : List ℕ → ℕ → LinkRecord
-link_record bytes i = link_values (link_read (take link_bytes (drop (lead_bytes + i * link_bytes) bytes)))
+-- what the record of link i, behind the first byte, is read as
+unfoldable pub link_record : List ℕ → ℕ → Result Link Refusal
+link_record bytes i = link_read (take link_bytes (drop (lead_bytes + i * link_bytes) bytes))
 
 abbrev pub unreadable : List ℕ → ℕ → Bool
-unreadable bytes i = not (eqb (link_record bytes i).refusal 0)
+unreadable bytes i = is_err (link_record bytes i)
 
 -- the refusal number of the record that was found; 0 if none was
 abbrev pub refusal_of : List ℕ → search.Found → ℕ
-refusal_of bytes (search.at i) = (link_record bytes i).refusal
+refusal_of bytes (search.at i) = number_of (link_record bytes i)
 refusal_of bytes search.nothing = 0
 
 -- 'each record in turn': the refusal number of the first of n that cannot be read
@@ -37,7 +37,7 @@ links_refusal bytes n = refusal_of bytes (search.first_from 0 n (unreadable byte
 
 -- the links that n records hold
 unfoldable pub links_in : List ℕ → ℕ → List Link
-links_in bytes n = map (λ i. (link_record bytes i).link) (count_from 0 n)
+links_in bytes n = map (λ i. (link_values (link_record bytes i)).link) (count_from 0 n)
 
 -- 'one byte with the count of links'
 abbrev pub first_byte : List ℕ → ℕ
@@ -73,10 +73,10 @@ opened t bytes = if_passed (eqb (bytes_refusal bytes) 0) (by_set_up t (links_in 
 abbrev pub told_by : OpenedDesk → Told
 told_by r = record { refusal = r.refusal; links = links_of r.links }
 
--- a refusal number, and where it is 0 these links
-pub record Found (refusal : ℕ) (links : List Link) (r : LinksFound) : Type 0 where
-  pub refusal_is : r.refusal ≡ refusal
-  pub links_are : r.refusal ≡ 0 → links_of r.table ≡ links
+-- a refusal of this number, and where it is 0 these links
+pub record Found (refusal : ℕ) (links : List Link) (r : Result LinkTable Refusal) : Type 0 where
+  pub refusal_is : number_of r ≡ refusal
+  pub links_are : IfOk r (λ table. links_of table ≡ links)
 
 -- 'on refusal it writes `desk refused N`', otherwise `desk links N`
 abbrev pub desk_report : ℕ → ℕ → Report

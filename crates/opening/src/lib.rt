@@ -8,20 +8,13 @@ ghost use Rattle.layout.specs.Layout.{lead_bytes, link_bytes};
 ghost use Rattle.rules.specs.Tables.{lent};
 ghost use Rattle.report.specs.Line.{line, max_line};
 ghost use Rattle.report.specs.Written.{Wrote};
-ghost use Rattle.opening.specs.Opened.{link_record, links_refusal, links_in, first_byte, bytes_refusal, opened, told_by, Found, desk_report};
+ghost use Rattle.opening.specs.Opened.{links_refusal, links_in, first_byte, bytes_refusal, opened, told_by, Found, desk_report};
 
 use desk_core::set_up;
-use layout::{LEAD_BYTES, LINK_BYTES, LinkRecord};
-use record::gcr_read_link;
+use layout::{LEAD_BYTES, LINK_BYTES};
+use reading::read_link;
 use report::{Report, write_line};
-use units::{BAD_LENGTH, BAD_SIZE, Head, LINKS, LinkTable, PATH_LINKS, empty_table, put};
-
-// The links of a session's first bytes; where the refusal number is not 0 they say nothing.
-#[derive(Clone, Copy)]
-pub struct LinksFound {
-    pub refusal: u32,
-    pub table: LinkTable,
-}
+use units::{Head, LINKS, LinkTable, Refusal, empty_table, put};
 
 // A desk that was opened: the refusal number, 0 if there is none, its head and its links.
 #[derive(Clone, Copy)]
@@ -31,63 +24,33 @@ pub struct Opened {
     pub links: LinkTable,
 }
 
-// The record of link `i`, behind the first byte.
-fn link_record(bytes: &[u8], i: usize) -> LinkRecord
-    requires { lead_bytes + (i + 1) * link_bytes ≤ length bytes.now }
-    ensures { result ≡ link_record bytes.now i }
-{
-    let at = LEAD_BYTES + i * LINK_BYTES;
-    let end = at + LINK_BYTES;
-    gcr_read_link(&bytes[at..end])
-}
-
 // Reads `count` link records in turn, up to the first that cannot be read.
-fn read_links(bytes: &[u8], count: usize) -> LinksFound
+fn read_links(bytes: &[u8], count: usize) -> Result<LinkTable, Refusal>
     requires count_le_most_links { count ≤ most_links }
     requires link_bytes_in_bounds { lead_bytes + count * link_bytes ≤ length bytes.now }
     ensures { Found (links_refusal bytes.now count) (links_in bytes.now count) result }
 {
     let mut table = empty_table(count);
-    let mut i: usize = 0;
-    while i < count {
-        let record = link_record(bytes, i);
-        let refusal = record.refusal;
-        let link = record.link;
-        if refusal != 0 {
-            return LinksFound { refusal, table };
-        }
-        table = put(table, i, link);
-        i += 1;
+    let (records, _) = bytes[LEAD_BYTES..].as_chunks::<LINK_BYTES>();
+    for (i, record) in records[..count].iter().enumerate() {
+        table = put(table, i, read_link(record)?);
     }
-    LinksFound { refusal: 0, table }
-}
-
-// No links, for this refusal.
-fn no_links(refusal: u32) -> LinksFound
-    ensures { result.refusal ≡ refusal }
-{
-    LinksFound {
-        refusal,
-        table: empty_table(0),
-    }
+    Ok(table)
 }
 
 // The links of a session's first bytes: 12 without a first byte, 1 for its range, 12 for too few bytes, 11 for a record.
-fn session_links(bytes: &[u8]) -> LinksFound
+fn session_links(bytes: &[u8]) -> Result<LinkTable, Refusal>
     ensures { Found (bytes_refusal bytes.now) (links_in bytes.now (first_byte bytes.now)) result }
 {
-    if bytes.len() == 0 {
-        return no_links(BAD_LENGTH);
-    }
-    let count = bytes[0] as usize;
-    if count < 1 {
-        return no_links(BAD_SIZE);
-    }
-    if LINKS < count {
-        return no_links(BAD_SIZE);
+    let Some(&first) = bytes.first() else {
+        return Err(Refusal::BadLength);
+    };
+    let count = usize::from(first);
+    if !(1..=LINKS).contains(&count) {
+        return Err(Refusal::BadSize);
     }
     if bytes.len() < LEAD_BYTES + count * LINK_BYTES {
-        return no_links(BAD_LENGTH);
+        return Err(Refusal::BadLength);
     }
     read_links(bytes, count)
 }
@@ -104,16 +67,16 @@ pub fn open_desk(
         (told_by result ≡ (opened t bytes.now).answer)
         × (lent result.head events.new free.new book.new ≡ (opened t bytes.now).tables) }
 {
-    let found = session_links(bytes);
-    let refusal = found.refusal;
-    let links = found.table;
-    if refusal != 0 {
-        return Opened {
-            refusal,
-            head,
-            links: empty_table(0),
-        };
-    }
+    let links = match session_links(bytes) {
+        Ok(links) => links,
+        Err(refusal) => {
+            return Opened {
+                refusal: u32::from(refusal),
+                head,
+                links: empty_table(0),
+            };
+        }
+    };
     let outcome = set_up(head, links, events, free, book);
     let after = outcome.head;
     Opened {
@@ -140,5 +103,5 @@ pub fn write_opened(out: &mut [u8], refusal: u32, links: u32) -> usize
     ensures wrote { Wrote (line 0 (desk_report refusal links) []) out.old 0 out.new result }
     ensures upper_bound { result ≤ max_line }
 {
-    write_line(out, 0, 0, desk_report(refusal, links), [0; PATH_LINKS], 0)
+    write_line(out, 0, 0, desk_report(refusal, links), &[])
 }

@@ -1,17 +1,18 @@
 -- An order's answer from what the contract of its call says: the number decides the report, and the tables are the outcome's.
-use mathlib.Core.Path.{◌≡◌, refl, sym, ◌∙◌, ap}
+use mathlib.Core.Path.{◌≡◌, refl, sym, ◌∙◌, ap, ap₂}
 use mathlib.Core.List.{List, []}
 use Prim.Native.Nat.{ℕ}
 use borrow.Author.Tests.{eq-eqb, ne_eqb}
+use Rattle.std.specs.Prelude.{Result, Err}
 use Rattle.units.specs.declared.Link.{Link}
+use Rattle.units.specs.declared.Refusal.{Refusal}
+use Rattle.units.specs.Refusals.{number}
 use Rattle.units.specs.declared.Head.{Head}
 use Rattle.units.specs.declared.Request.{Request}
 use Rattle.path_search.specs.declared.Path.{Path}
 use Rattle.path_search.specs.Answer.{path_of}
 use Rattle.choice.specs.declared.ChoiceRecord.{ChoiceRecord}
 use Rattle.layout.specs.declared.Order.{Order}
-use Rattle.layout.specs.declared.OrderRead.{OrderRead}
-use Rattle.layout.specs.declared.OrderRead.TheVariants as reads
 use Rattle.layout.specs.Records.{if_passed}
 use Rattle.report.specs.declared.Report.{Report}
 use Rattle.report.specs.declared.Report.TheVariants as reports
@@ -31,9 +32,8 @@ module _ (links : List Link) (t : Tables) where
   offer_keeps r = refl
 
   -- an order that cannot be read keeps them too
-  pub unread : {number : ℕ} {path : Path} {read : OrderRead} → path ≡ path_of [] → read ≡ reads.Refused number → Gives (record { report = reports.Refused number; path = path }) t (by_reading links t read)
-  unread {number} p e =
-      gives_of (by_reading links t) (sym e) (ap (λ x. record { report = reports.Refused number; path = x }) p, refl)
+  pub unread : {refusal : Refusal} {k : ℕ} {path : Path} {read : Result Order Refusal} → k ≡ number refusal → path ≡ path_of [] → read ≡ Err refusal → Gives (record { report = reports.Refused k; path = path }) t (by_reading links t read)
+  unread k p e = gives_of (by_reading links t) (sym e) (ap₂ (λ x y. record { report = reports.Refused x; path = y }) k p, refl)
 
   module _ (c : Call) where
     abbrev pub said : Values

@@ -5,7 +5,9 @@ use mathlib.Core.Bool.{Bool, true, false}
 use Prim.Native.Nat.{ℕ, ◌≤◌}
 use native.Mathlib.Omega.{arith}
 use lib.ListN.{length}
+use Rattle.std.specs.Prelude.{Result, Ok, Err}
 use Rattle.units.specs.declared.Link.{Link}
+use Rattle.units.specs.declared.Refusal.{Refusal}
 use Rattle.units.specs.Limits.{most_hops}
 use Rattle.units.specs.Search.{Found, at, nothing, first_from}
 use Rattle.units.proofs.Search.{IsFirst, first_from_found}
@@ -14,8 +16,7 @@ use Rattle.path_search.proofs.Chains.{lowest_length}
 use Rattle.choice.specs.Earliest.{choice_at, earliest}
 use Rattle.choice.specs.Choice.{route_at, grant_at, try_at, possible, choose}
 use Rattle.layout.specs.declared.Order.TheVariants as orders
-use Rattle.layout.specs.declared.OrderRead.{OrderRead}
-use Rattle.layout.specs.declared.OrderRead.TheVariants as reads
+use Rattle.layout.specs.declared.Order.{Order}
 use Rattle.layout.specs.Records.{order_read}
 use Rattle.layout.specs.Values.{request_of}
 use Rattle.rules.specs.Plain.{Plain, low, graph, carries}
@@ -75,9 +76,9 @@ pub ordered_short : (links : List Link) (t : Tables) (bytes : List ℕ) → (ord
 unfolding ordered answered
 ordered_short links t bytes = by (order_read bytes)
   where
-    by : (r : OrderRead) → (by_reading links t r).answer.path.count ≤ most_hops
-    by (reads.Read (orders.Book number w)) = outcome_short links t (book number (request_of w))
-    by (reads.Read (orders.Cancel number)) = omega arith
-    by (reads.Read (orders.Clock minute)) = omega arith
-    by (reads.Read (orders.Offer w)) = outcome_short links t (offer (request_of w))
-    by (reads.Refused number) = omega arith
+    by : (r : Result Order Refusal) → (by_reading links t r).answer.path.count ≤ most_hops
+    by (Ok (orders.Book number w)) = outcome_short links t (book number (request_of w))
+    by (Ok (orders.Cancel number)) = omega arith
+    by (Ok (orders.Clock minute)) = omega arith
+    by (Ok (orders.Offer w)) = outcome_short links t (offer (request_of w))
+    by (Err refusal) = omega arith

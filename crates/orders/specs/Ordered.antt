@@ -1,12 +1,12 @@
 -- Document 01's 'one line for each order': what any bytes are answered as an order, and each table afterwards.
-use Rattle.std.specs.Prelude.{List, [], ℕ, eqb, take}
+use Rattle.std.specs.Prelude.{List, [], ℕ, eqb, take, Result, Ok, Err}
 use Rattle.units.specs.declared.Link.{Link}
+use Rattle.units.specs.declared.Refusal.{Refusal}
+use Rattle.units.specs.Refusals.{number}
 use Rattle.path_search.specs.declared.Path.{Path}
 use Rattle.path_search.specs.Answer.{path_of}
 use Rattle.layout.specs.declared.Order.{Order}
 use Rattle.layout.specs.declared.Order.TheVariants as orders
-use Rattle.layout.specs.declared.OrderRead.{OrderRead}
-use Rattle.layout.specs.declared.OrderRead.TheVariants as reads
 use Rattle.layout.specs.Records.{if_passed, order_read}
 use Rattle.layout.specs.Values.{request_of}
 use Rattle.report.specs.declared.Report.{Report}
@@ -60,9 +60,9 @@ unfoldable pub answered : List Link → Tables → Order → Ordered
 answered links t order = answered_by order (outcome links t (call_of order))
 
 -- 'reading a record': an order that cannot be read is refused and changes nothing
-abbrev pub by_reading : List Link → Tables → OrderRead → Ordered
-by_reading links t (reads.Read order) = answered links t order
-by_reading links t (reads.Refused number) = record { answer = record { report = reports.Refused number; path = path_of [] }; tables = t }
+abbrev pub by_reading : List Link → Tables → Result Order Refusal → Ordered
+by_reading links t (Ok order) = answered links t order
+by_reading links t (Err refusal) = record { answer = record { report = reports.Refused (number refusal); path = path_of [] }; tables = t }
 
 -- what any bytes are answered as an order
 unfoldable pub ordered : List Link → Tables → List ℕ → Ordered

@@ -11,11 +11,11 @@ ghost use Rattle.report.specs.Written.{Wrote};
 ghost use Rattle.orders.specs.Ordered.{answered, ordered, told_by, line_of};
 
 use desk_core::{cancel, make_booking, move_clock, offer};
-use layout::{Order, OrderRead, Wish};
+use layout::{Order, Wish};
 use path_search::{Path, no_path};
-use reading::{read_order, request_of};
+use reading::read_order;
 use report::{Report, write_line};
-use units::{Head, LinkTable, Minute};
+use units::{Head, LinkTable, Minute, Request};
 
 // The answer to an order: the head after it, what its line says, and the path beside it.
 #[derive(Clone, Copy)]
@@ -46,7 +46,7 @@ fn answer_booking(
         (told_by result ≡ (answered (links_of links) t (Book number wish)).answer)
         × (lent result.head events.new free.new book.new ≡ (answered (links_of links) t (Book number wish)).tables) }
 {
-    let request = request_of(wish);
+    let request = Request::from(wish);
     let outcome = make_booking(head, links, events, free, book, number, request);
     let after = outcome.head;
     let answer = outcome.answer;
@@ -80,7 +80,7 @@ fn answer_offer(
         (told_by result ≡ (answered (links_of links) t (Offer wish)).answer)
         × (lent result.head events.now free.now book.now ≡ (answered (links_of links) t (Offer wish)).tables) }
 {
-    let request = request_of(wish);
+    let request = Request::from(wish);
     let answer = offer(head, links, events, free, book, request);
     let path = answer.path;
     let start = answer.start;
@@ -194,16 +194,17 @@ pub fn answer_order(
         × (lent result.head events.new free.new book.new ≡ (ordered (links_of links) t bytes.now).tables) }
 {
     match read_order(bytes) {
-        OrderRead::Read(order) => answer_read(head, links, events, free, book, order),
-        OrderRead::Refused(number) => Answered {
+        Ok(order) => answer_read(head, links, events, free, book, order),
+        Err(refusal) => Answered {
             head,
-            report: Report::Refused(number),
+            report: Report::Refused(u32::from(refusal)),
             path: no_path(),
         },
     }
 }
 
 // Answers any bytes as an order and writes its line from index `at` on.
+#[tactic(auto, using(crate::proofs::Short::ordered_short))]
 pub fn run_order(
     bytes: &[u8],
     head: Head,
@@ -221,10 +222,10 @@ pub fn run_order(
     ensures next_bound { result.next ≤ at + max_line }
 {
     let answer = answer_order(bytes, head, links, events, free, book);
-    let after = answer.head;
-    let report = answer.report;
-    let path = answer.path;
-    let hops = path.links;
-    let next = write_line(out, at, place, report, hops, path.count);
-    Line { head: after, next }
+    let count = answer.path.count as usize;
+    let next = write_line(out, at, place, answer.report, &answer.path.links[..count]);
+    Line {
+        head: answer.head,
+        next,
+    }
 }

@@ -16,10 +16,11 @@ use timeline::{insert_span, reset_events};
 use units::{Head, Link, LinkNumber, Minute, column, release};
 
 // Whether every link of a booking's path has its bandwidth free from its start until a minute.
-fn path_fits(table: &FreeTable<'_>, b: Booking, until: Minute) -> bool
+#[tactic(auto, using(crate::proofs::Along::enough_short, crate::proofs::Along::enough_next, crate::proofs::Along::enough_done))]
+fn path_fits(table: FreeTable<'_>, b: Booking, until: Minute) -> bool
     requires place_right { PlaceRight b }
     requires ends_later { b.start.0 < until.0 }
-    ensures { result ≡ enough_path table.now.events.now b.start.0 until.0 b.bandwidth.0 (place_path b) table.now.figures.now }
+    ensures { result ≡ enough_path table.entry.events.now b.start.0 until.0 b.bandwidth.0 (place_path b) table.entry.figures.now }
 {
     for &link in &b.links[..b.count as usize] {
         if !table.has_bandwidth(b.start, until, LinkNumber(link), b.bandwidth) {
@@ -30,6 +31,7 @@ fn path_fits(table: &FreeTable<'_>, b: Booking, until: Minute) -> bool
 }
 
 // Takes a booking's bandwidth from every link of its path from its start until a minute.
+#[tactic(auto, using(crate::proofs::Along::less_next, crate::proofs::Along::less_done))]
 fn take_path(events: &[u32], free: &mut [u32], b: Booking, until: Minute)
     requires sized { TablesSized events.now free.old }
     requires place_right { PlaceRight b }
@@ -56,7 +58,7 @@ pub fn add_booking(head: Head, events: &mut [u32], free: &mut [u32], b: Booking)
         events,
         figures: free,
     };
-    let fits = path_fits(&table, b, until);
+    let fits = path_fits(table, b, until);
     take_path(events, free, b, until);
     fits
 }

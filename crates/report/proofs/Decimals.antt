@@ -2,11 +2,12 @@
 use mathlib.Core.Path.{◌≡◌, refl, sym, ap, ◌∙◌, subst}
 use mathlib.Core.List.{List, [], ◌∷◌, ◌++◌}
 use Prim.Native.Nat.{ℕ, zero, suc, ◌+◌, ◌-◌, ◌*◌, ◌/◌, ◌%◌, ◌^◌, ◌≤◌, ◌<◌}
-use native.Mathlib.Nat.{pow-succ'}
 use native.Mathlib.Decide.{dec_lt}
 use native.Mathlib.Omega.{arith}
 use lib.ListN.{length, get_or, length-append, get_or-append}
 use borrow.Author.Tests.{lt-ltb, le-ltb}
+use Rattle.std.specs.Fmt as fmt
+use Rattle.std.proofs.lemmas.Fmt.{decimal_from_appends, length-decimal-le_succ}
 use Rattle.units.specs.Lists.{Within, All}
 use Rattle.report.specs.Decimal.{digit, digits, decimal, read_behind, read_decimal}
 
@@ -78,10 +79,7 @@ leads n =
 pub no_leading_zero : (n : ℕ) → 0 < n → 48 < get_or (decimal n) 0 0
 no_leading_zero n = (leads n).0
 
--- a number below 10 ^ k has at most k digits
-pub few_digits : (n k : ℕ) → n < 10 ^ suc k → length (decimal n) ≤ suc k
-few_digits n = by_digits (λ n ds. (k : ℕ) → n < 10 ^ suc k → length ds ≤ suc k) (λ n h k b. omega arith) more (suc n) n (omega arith)
-  where
-    more : (n : ℕ) (ds : List ℕ) → 10 ≤ n → ((k : ℕ) → n / 10 < 10 ^ suc k → length ds ≤ suc k) → (k : ℕ) → n < 10 ^ suc k → length (ds ++ (digit (n % 10) ∷ [])) ≤ suc k
-    more n ds h a zero b = absurd (omega (arith, pow-succ' 10 0))
-    more n ds h a (suc k) b = rw length-append (omega (arith, a k (omega (arith, pow-succ' 10 (suc k)))))
+-- of a number that fits 64 bits, std's text
+pub as_printed : (n : ℕ) → n < 2 ^ 64 → fmt.decimal n ≡ decimal n
+unfolding decimal
+as_printed n h = sym (decimal_from_appends digits (record { one = digits_short; more = digits_long }) (suc n) n h (omega (arith, length-decimal-le_succ n h)))

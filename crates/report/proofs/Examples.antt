@@ -4,7 +4,7 @@ use mathlib.Core.List.{[], ◌∷◌}
 use Prim.Native.Nat.{◌^◌, ◌-◌}
 use Rattle.units.specs.Limits.{last_minute}
 use Rattle.report.specs.declared.Report.TheVariants.{DeskLinks, DeskRefused, Booked, Offered, Cancelled, Clock, Refused}
-use Rattle.report.specs.Text.{ascii}
+use Rattle.std.specs.Prelude.{codes}
 use Rattle.report.specs.Decimal.{digits, decimal}
 use Rattle.report.specs.Line.{numbers, route, answer, line}
 
@@ -20,24 +20,24 @@ pub session :
     ∷ line 7 (Clock (record { 0 = 10 })) []
     ∷ line 8 (Refused 9) []
     ∷ []
-    ≡ ascii "desk links 3\n"
-    ∷ ascii "1 booked 7 start 0 links 2\n"
-    ∷ ascii "2 booked 9 start 0 links 0 1\n"
-    ∷ ascii "3 refused 8\n"
-    ∷ ascii "4 booked 3 start 5 links 0 1\n"
-    ∷ ascii "5 cancelled 9\n"
-    ∷ ascii "6 offer start 0 links 0 1\n"
-    ∷ ascii "7 clock 10\n"
-    ∷ ascii "8 refused 9\n"
+    ≡ codes "desk links 3\n"
+    ∷ codes "1 booked 7 start 0 links 2\n"
+    ∷ codes "2 booked 9 start 0 links 0 1\n"
+    ∷ codes "3 refused 8\n"
+    ∷ codes "4 booked 3 start 5 links 0 1\n"
+    ∷ codes "5 cancelled 9\n"
+    ∷ codes "6 offer start 0 links 0 1\n"
+    ∷ codes "7 clock 10\n"
+    ∷ codes "8 refused 9\n"
     ∷ []
 unfolding digits decimal numbers route answer line
 session = refl
 
 -- a desk that is refused; the last place, number, minute and link
-pub desk_refused : line 0 (DeskRefused 12) [] ≡ ascii "desk refused 12\n"
+pub desk_refused : line 0 (DeskRefused 12) [] ≡ codes "desk refused 12\n"
 unfolding digits decimal answer line
 desk_refused = refl
 
-pub last_place : line (2 ^ 64 - 1) (Booked 16383 (record { 0 = last_minute })) (63 ∷ []) ≡ ascii "18446744073709551615 booked 16383 start 1000000000 links 63\n"
+pub last_place : line (2 ^ 64 - 1) (Booked 16383 (record { 0 = last_minute })) (63 ∷ []) ≡ codes "18446744073709551615 booked 16383 start 1000000000 links 63\n"
 unfolding digits decimal numbers route answer line
 last_place = refl

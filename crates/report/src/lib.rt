@@ -3,13 +3,14 @@
 // answer. `report_c` exports `gcr_write_line`.
 #![tactic(auto)]
 
-ghost use Rattle.std.specs.Prelude.{◌≡◌, ◌∷◌, [], ◌++◌, ◌+◌, ◌<◌, ◌≤◌, length, take};
+ghost use Rattle.std.specs.Prelude.{◌≡◌, ◌++◌, ◌+◌, ◌≤◌, length};
 ghost use Rattle.units.specs.Limits.{most_hops};
-ghost use Rattle.report.specs.Decimal.{digit, decimal};
+ghost use Rattle.report.specs.Decimal.{decimal};
 ghost use Rattle.report.specs.Line.{numbers, route, answer, line, max_line, has_room, if_room};
 ghost use Rattle.report.specs.Kinds.{report_of};
-ghost use Rattle.report.specs.Written.{Wrote};
+ghost use Rattle.report.specs.Written.{Wrote, HasRoom, Writes};
 
+use itoa::Buffer;
 use units::{Minute, PATH_LINKS};
 
 // The bytes of the longest line: a place of 20 digits, two figures and 31 links of 10, and the words of a booking.
@@ -28,7 +29,8 @@ const CANCELLED: u32 = 4;
 
 const CLOCK: u32 = 5;
 
-// What a line says. The order's place and the path stand beside it.
+// What a line says. The order's place and the path stand beside it. A refusal stands as its number, since a program in
+// another language hands any figure over.
 #[derive(Clone, Copy)]
 pub enum Report {
     DeskLinks(u32),
@@ -40,164 +42,114 @@ pub enum Report {
     Refused(u32),
 }
 
-// Writes bytes as they are.
-fn write_bytes(out: &mut [u8], at: usize, bytes: &[u8]) -> usize
-    requires { at + length bytes.now ≤ length out.old }
-    ensures { Wrote bytes.now out.old at out.new result }
-{
-    let mut i: usize = 0;
-    while i < bytes.len() {
-        out[at + i] = bytes[i];
-        i += 1;
-    }
-    at + i
-}
-
-// Writes a number below ten as its digit.
-fn write_digit(out: &mut [u8], at: usize, value: u64) -> usize
-    requires value_bound { value < 10 }
-    requires at_in_bounds { at < length out.old }
-    ensures { Wrote (digit value ∷ []) out.old at out.new result }
-{
-    out[at] = b'0' + value as u8;
-    at + 1
-}
-
-// Writes a number in decimal.
-fn write_decimal(out: &mut [u8], at: usize, value: u64) -> usize
-    requires { at + length (decimal value) ≤ length out.old }
-    ensures { Wrote (decimal value) out.old at out.new result }
-{
-    if value < 10 {
-        return write_digit(out, at, value);
-    }
-    let last = write_decimal(out, at, value / 10);
-    write_digit(out, last, value % 10)
-}
-
-// Writes a word and the number behind it.
-fn write_field(out: &mut [u8], at: usize, word: &[u8], value: u32) -> usize
-    requires { at + length (word.now ++ decimal value) ≤ length out.old }
-    ensures { Wrote (word.now ++ decimal value) out.old at out.new result }
-{
-    let next = write_bytes(out, at, word);
-    write_decimal(out, next, value as u64)
-}
-
-// Writes an order's place, a word and the number behind it.
-fn write_placed(out: &mut [u8], at: usize, place: u64, word: &[u8], value: u32) -> usize
-    requires { at + length (decimal place ++ (word.now ++ decimal value)) ≤ length out.old }
-    ensures { Wrote (decimal place ++ (word.now ++ decimal value)) out.old at out.new result }
-{
-    let next = write_decimal(out, at, place);
-    write_field(out, next, word, value)
-}
-
-// Writes a link number with a space before it.
-fn write_link(out: &mut [u8], at: usize, link: u32) -> usize
-    requires { at + length (numbers (link ∷ [])) ≤ length out.old }
-    ensures { Wrote (numbers (link ∷ [])) out.old at out.new result }
-{
-    write_field(out, at, b" ", link)
-}
-
-// Writes link numbers in their order, a space before each.
-fn write_numbers(out: &mut [u8], at: usize, links: &[u32]) -> usize
-    requires { at + length (numbers links.now) ≤ length out.old }
-    ensures { Wrote (numbers links.now) out.old at out.new result }
-{
-    let mut next = at;
-    let mut hop: usize = 0;
-    while hop < links.len() {
-        next = write_link(out, next, links[hop]);
-        hop += 1;
-    }
-    next
-}
-
-// Writes a start minute and the link numbers of its path.
-fn write_route(out: &mut [u8], at: usize, start: Minute, links: &[u32]) -> usize
-    requires { at + length (route start links.now) ≤ length out.old }
-    ensures { Wrote (route start links.now) out.old at out.new result }
-{
-    let minute = write_field(out, at, b" start ", start.0);
-    let next = write_bytes(out, minute, b" links");
-    write_numbers(out, next, links)
-}
-
-// Writes an offer: the order's place, the word and the route.
-fn write_offer(out: &mut [u8], at: usize, place: u64, start: Minute, links: &[u32]) -> usize
-    requires { at + length (answer place (Report.Offered start) links.now) ≤ length out.old }
-    ensures { Wrote (answer place (Report.Offered start) links.now) out.old at out.new result }
-{
-    let word = write_decimal(out, at, place);
-    let next = write_bytes(out, word, b" offer");
-    write_route(out, next, start, links)
-}
-
-// Writes a booking: the order's place, the word with the booking's number, and the route.
-fn write_booking(
-    out: &mut [u8],
+// A line that is being written into a lent buffer, from index `at` on.
+#[derive(Drop)]
+struct LineWriter<'a> {
+    out: &'a mut [u8],
     at: usize,
-    place: u64,
-    number: u32,
-    start: Minute,
-    links: &[u32],
-) -> usize
-    requires { at + length (answer place (Report.Booked number start) links.now) ≤ length out.old }
-    ensures { Wrote (answer place (Report.Booked number start) links.now) out.old at out.new result }
-{
-    let next = write_placed(out, at, place, b" booked ", number);
-    write_route(out, next, start, links)
 }
 
-// Writes a line without its end.
-fn write_answer(out: &mut [u8], at: usize, place: u64, report: Report, links: &[u32]) -> usize
-    requires { at + length (answer place report links.now) ≤ length out.old }
-    ensures { Wrote (answer place report links.now) out.old at out.new result }
-{
-    match report {
-        Report::DeskLinks(count) => write_field(out, at, b"desk links ", count),
-        Report::DeskRefused(refusal) => write_field(out, at, b"desk refused ", refusal),
-        Report::Booked(number, start) => write_booking(out, at, place, number, start, links),
-        Report::Offered(start) => write_offer(out, at, place, start, links),
-        Report::Cancelled(number) => write_placed(out, at, place, b" cancelled ", number),
-        Report::Clock(minute) => write_placed(out, at, place, b" clock ", minute.0),
-        Report::Refused(refusal) => write_placed(out, at, place, b" refused ", refusal),
+impl LineWriter<'_> {
+    // Writes bytes as they are.
+    fn write_bytes(&mut self, bytes: &[u8])
+        requires { HasRoom bytes.now self.old }
+        ensures { Writes bytes.now self.old self.new }
+    {
+        let end = self.at + bytes.len();
+        self.out[self.at..end].copy_from_slice(bytes);
+        self.at = end;
+    }
+
+    // Writes a number in decimal.
+    #[tactic(auto, using(crate::proofs::Decimals::as_printed))]
+    fn write_decimal(&mut self, value: u64)
+        requires { HasRoom (decimal value) self.old }
+        ensures { Writes (decimal value) self.old self.new }
+    {
+        let mut digits = Buffer::new();
+        self.write_bytes(digits.format(value).as_bytes());
+    }
+
+    // Writes a word and the number behind it.
+    fn write_field(&mut self, word: &[u8], value: u32)
+        requires { HasRoom (word.now ++ decimal value) self.old }
+        ensures { Writes (word.now ++ decimal value) self.old self.new }
+    {
+        self.write_bytes(word);
+        self.write_decimal(value as u64);
+    }
+
+    // Writes link numbers in their order, a space before each.
+    fn write_links(&mut self, links: &[u32])
+        requires { HasRoom (numbers links.now) self.old }
+        ensures { Writes (numbers links.now) self.old self.new }
+    {
+        for &link in links {
+            self.write_field(b" ", link);
+        }
+    }
+
+    // Writes a start minute and the link numbers of its path.
+    #[tactic(auto, unfolding(crate::specs::Line::route))]
+    fn write_route(&mut self, start: Minute, links: &[u32])
+        requires { HasRoom (route start links.now) self.old }
+        ensures { Writes (route start links.now) self.old self.new }
+    {
+        self.write_field(b" start ", start.0);
+        self.write_bytes(b" links");
+        self.write_links(links);
+    }
+
+    // Writes an order's place, a word and the number behind it.
+    fn write_placed(&mut self, place: u64, word: &[u8], value: u32)
+        requires { HasRoom (decimal place ++ (word.now ++ decimal value)) self.old }
+        ensures { Writes (decimal place ++ (word.now ++ decimal value)) self.old self.new }
+    {
+        self.write_decimal(place);
+        self.write_field(word, value);
+    }
+
+    // Writes a line without its end.
+    #[tactic(auto, unfolding(crate::specs::Line::answer))]
+    fn write_answer(&mut self, place: u64, report: Report, links: &[u32])
+        requires { HasRoom (answer place report links.now) self.old }
+        ensures { Writes (answer place report links.now) self.old self.new }
+    {
+        match report {
+            Report::DeskLinks(count) => self.write_field(b"desk links ", count),
+            Report::DeskRefused(refusal) => self.write_field(b"desk refused ", refusal),
+            Report::Booked(number, start) => {
+                self.write_placed(place, b" booked ", number);
+                self.write_route(start, links);
+            }
+            Report::Offered(start) => {
+                self.write_decimal(place);
+                self.write_bytes(b" offer");
+                self.write_route(start, links);
+            }
+            Report::Cancelled(number) => self.write_placed(place, b" cancelled ", number),
+            Report::Clock(minute) => self.write_placed(place, b" clock ", minute.0),
+            Report::Refused(refusal) => self.write_placed(place, b" refused ", refusal),
+        }
     }
 }
 
-// Writes a line with the links of a path in travel order.
-fn write_report(out: &mut [u8], at: usize, place: u64, report: Report, links: &[u32]) -> usize
+// Writes a line from index `at` on and answers the index behind it. The path is lent as its links in travel order; a line
+// that shows no path looks at none, and one of the desk itself at no place.
+pub fn write_line(out: &mut [u8], at: usize, place: u64, report: Report, links: &[u32]) -> usize
     requires max_line_in_bounds { at + max_line ≤ length out.old }
-    requires links_len_bound { length links.now ≤ most_hops }
+    requires links_le_most_hops { length links.now ≤ most_hops }
     ensures wrote { Wrote (line place report links.now) out.old at out.new result }
     ensures upper_bound { result ≤ at + max_line }
 {
-    let end = write_answer(out, at, place, report, links);
-    write_bytes(out, end, b"\n")
-}
-
-// Writes a line from index `at` on and answers the index behind it. The path is its first `count` links; a line that
-// shows no path looks at none, and one of the desk itself at no place.
-pub fn write_line(
-    out: &mut [u8],
-    at: usize,
-    place: u64,
-    report: Report,
-    path: [u32; PATH_LINKS],
-    count: u32,
-) -> usize
-    requires max_line_in_bounds { at + max_line ≤ length out.old }
-    requires count_le_most_hops { count ≤ most_hops }
-    ensures wrote { Wrote (line place report (take count path)) out.old at out.new result }
-    ensures upper_bound { result ≤ at + max_line }
-{
-    let links = count as usize;
-    write_report(out, at, place, report, &path[..links])
+    let mut writer = LineWriter { out, at };
+    writer.write_answer(place, report, links);
+    writer.write_bytes(b"\n");
+    writer.at
 }
 
 // The report of a kind with its figure and its minute; the figure is a count, a booking number or a refusal number.
+#[tactic(auto, unfolding(crate::specs::Kinds::report_of))]
 fn report_of(kind: u32, figure: u32, minute: Minute) -> Report
     ensures { result ≡ report_of kind figure minute }
 {
@@ -216,17 +168,11 @@ fn report_of(kind: u32, figure: u32, minute: Minute) -> Report
 fn has_room(size: usize, at: usize, links: usize) -> bool
     ensures { result ≡ has_room size at links }
 {
-    if size < MAX_LINE {
-        return false;
-    }
-    if size - MAX_LINE < at {
-        return false;
-    }
-    links <= PATH_LINKS
+    MAX_LINE <= size && at <= size - MAX_LINE && links <= PATH_LINKS
 }
 
-// Writes a line as `write_line` does, for a program in another language: the report by its kind, and the path as its
-// links alone. Where there is no room for the longest line or the path is too long it writes nothing and answers `at`.
+// Writes a line as `write_line` does, for a program in another language: the report by its kind. Where there is no room
+// for the longest line or the path is too long it writes nothing and answers `at`.
 pub fn gcr_write_line(
     out: &mut [u8],
     at: usize,
@@ -238,8 +184,8 @@ pub fn gcr_write_line(
 ) -> usize
     ensures { Wrote (if_room (has_room (length out.old) at (length links.now)) (line place (report_of kind figure minute) links.now)) out.old at out.new result }
 {
-    if has_room(out.len(), at, links.len()) {
-        return write_report(out, at, place, report_of(kind, figure, minute), links);
+    if !has_room(out.len(), at, links.len()) {
+        return at;
     }
-    at
+    write_line(out, at, place, report_of(kind, figure, minute), links)
 }

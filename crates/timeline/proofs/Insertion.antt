@@ -1,19 +1,22 @@
 -- An event put in, as the code does it on lists: what stays, what moves, and how much room it takes.
-use mathlib.Core.Path.{◌≡◌, refl, sym, ap, ◌∙◌}
-use mathlib.Core.List.{List, [], ◌∷◌, ◌++◌}
+use mathlib.Core.Path.{◌≡◌, refl, sym, ap, ap₂, ◌∙◌}
+use mathlib.Core.List.{List, [], ◌∷◌, ◌++◌, append-nil}
 use mathlib.Core.Bool.{Bool, true, false}
 use Prim.Native.Nat.{ℕ, zero, suc, ◌+◌, ◌-◌, ◌*◌, ◌≤◌, ◌<◌}
+use native.Mathlib.Nat.{sub-zero}
 use native.Mathlib.Numerals.{add-one}
 use native.Mathlib.Omega.{arith}
 use lib.Dec.{leb}
-use lib.ListN.{length, get_or, take, drop, length-append, length-take, length-drop}
+use lib.ListN.{length, get_or, set, take, drop, length-append, length-take, length-drop, drop_of_length-le}
+use lib.Seq.{take-add, length-take-le}
+use Rattle.std.specs.List.{copy_within}
 use borrow.Author.Tests.{lt-ltb, le-ltb, ltb-true}
 use Rattle.timeline.specs.Events.{further, passed, row_at}
 use Rattle.timeline.specs.EventTable.{filled, count_events}
 use Rattle.units.specs.Limits.{most_links}
 use Rattle.units.specs.Lists.{put_piece}
-use Rattle.timeline.specs.Insertion.{missing, if_missing, with_event, with_row, Room}
 use Rattle.units.proofs.Pieces.{put_in_part}
+use Rattle.timeline.specs.Insertion.{missing, if_missing, with_event, with_row, Room}
 
 -- ---- the row that holds is one of the events
 
@@ -56,10 +59,40 @@ module _ (m : ℕ) (es : List ℕ) where
   unfolding with_row
   with_row_new width rows h = rw (lt-ltb (get_or es (row_at es m) 0) m h)
 
+-- moving a part up by a piece puts the piece in behind itself
+pub put_behind : (width : ℕ) (l : List ℕ) → width + width ≤ length l → copy_within l 0 (length l - width) width ≡ put_piece width (take width l) l
+put_behind width l h =
+    rw (sub-zero, drop_of_length-le l {i = width + (length l - width)} (omega arith), append-nil)
+    (ap (λ (r : List ℕ). take width l ++ r) (ap (λ n. take n l) split ∙ take-add width rest l ∙ ap (λ n. take width l ++ take n (drop width l)) fits))
+  where
+    rest : ℕ
+    rest = length l - (width + width)
+
+    split : length l - width ≡ width + rest
+    split = omega arith
+
+    fits : rest ≡ length l - (width + length (take width l))
+    fits = rw (length-take-le width l (omega arith)) refl
+
+-- a piece of one figure is then written over
+written_over : (m : ℕ) (front piece rest : List ℕ) → length piece ≡ 1 → set (front ++ (piece ++ rest)) (length front) m ≡ front ++ ((m ∷ []) ++ rest)
+written_over m [] [] rest h = absurd (omega arith)
+written_over m [] (x ∷ []) rest h = refl
+written_over m [] (x ∷ y ∷ piece) rest h = absurd (omega arith)
+written_over m (a ∷ front) piece rest h = ap (λ (l : List ℕ). a ∷ l) (written_over m front piece rest h)
+
 -- what the code does to the two tables behind row i, where that is the row that holds
 module _ (m : ℕ) (es : List ℕ) (i : ℕ) (found : i ≡ row_at es m) (h : get_or es i 0 < m) where
-  pub event_put : take i es ++ put_piece 1 (m ∷ []) (drop i es) ≡ with_event m es
-  event_put = put_in_part i 1 (m ∷ []) es ∙ ap (λ j. put_piece j (m ∷ []) es) (add-one i ∙ ap suc found) ∙ sym (with_event_new m es (rw found at h))
+  pub event_put : i + 1 < length es → set (take i es ++ put_piece 1 (take 1 (drop i es)) (drop i es)) (i + 1) m ≡ with_event m es
+  event_put fits =
+      ap (λ (l : List ℕ). set l (i + 1) m) (put_in_part i 1 (take 1 (drop i es)) es)
+      ∙ ap (λ n. set (put_piece (i + 1) (take 1 (drop i es)) es) n m) (sym (length-take-le (i + 1) es (omega arith)))
+      ∙ written_over m (take (i + 1) es) (take 1 (drop i es)) (take (length es - (i + 1 + length (take 1 (drop i es)))) (drop (i + 1) es)) one
+      ∙ ap₂ (λ j n. take j es ++ ((m ∷ []) ++ take (length es - (j + n)) (drop j es))) (add-one i ∙ ap suc found) one
+      ∙ sym (with_event_new m es (rw found at h))
+    where
+      one : length (take 1 (drop i es)) ≡ 1
+      one = length-take-le 1 (drop i es) (rw length-drop (omega arith))
 
   pub row_put : (width : ℕ) (rows : List ℕ) → take (i * width) rows ++ put_piece width (take width (drop (i * width) rows)) (drop (i * width) rows) ≡ with_row width es m rows
   row_put width rows =

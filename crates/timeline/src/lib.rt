@@ -10,42 +10,29 @@ ghost use Rattle.timeline.specs.Events.{row_at};
 ghost use Rattle.timeline.specs.EventTable.{count_events, only_clock};
 ghost use Rattle.timeline.specs.Insertion.{with_event, with_row, with_span, with_span_rows, Room};
 
-use units::{Minute, ROW, clear_from, shift_up};
+use units::{Minute, ROW};
 
 // The row that holds in a minute: that of the last event at or before it, or the first one where there is none.
 pub fn row_at(events: &[u32], minute: Minute) -> usize
     ensures { result ≡ row_at events.now minute.0 }
 {
-    let mut next = 1;
-    while next < events.len() {
-        let event = events[next];
-        if event == 0 {
-            return next - 1;
-        }
-        if minute.0 < event {
-            return next - 1;
-        }
-        next += 1;
-    }
-    next - 1
+    let Some((_, later)) = events.split_first() else {
+        return 0;
+    };
+    later
+        .iter()
+        .take_while(|&&event| event != 0 && event <= minute.0)
+        .count()
 }
 
 // How many events the table holds: the clock, and those up to the first zero behind it.
-#[tactic(auto, using(crate::proofs::Counts::filled_zero, crate::proofs::Counts::filled_next))]
 pub fn count_events(events: &[u32]) -> usize
     ensures { result ≡ count_events events.now }
 {
-    if events.len() == 0 {
+    let Some((_, later)) = events.split_first() else {
         return 0;
-    }
-    let mut count = 1;
-    while count < events.len() {
-        if events[count] == 0 {
-            return count;
-        }
-        count += 1;
-    }
-    count
+    };
+    1 + later.iter().take_while(|&&event| event != 0).count()
 }
 
 // The event table of a desk without bookings: the clock alone.
@@ -53,28 +40,21 @@ pub fn reset_events(events: &mut [u32], clock: Minute)
     requires { 0 < length events.old }
     ensures { events.new ≡ only_clock (length events.old) clock.0 }
 {
+    events.fill(0);
     events[0] = clock.0;
-    clear_from(events, 1);
 }
 
-// Puts the first row of the part in again behind itself; the rows behind it move up, and the last is dropped.
-fn repeat_row(part: &mut [u32])
-    requires { most_links + most_links ≤ length part.old }
-    ensures { part.new ≡ put_piece most_links (take most_links part.old) part.old }
+// Puts the first figures of the part in again behind themselves; what stands behind them moves up, and what has no room is dropped.
+fn repeat<const WIDTH: usize>(part: &mut [u32])
+    requires { WIDTH + WIDTH ≤ length part.old }
+    ensures { part.new ≡ put_piece WIDTH (take WIDTH part.old) part.old }
 {
-    shift_up(part, ROW);
-}
-
-// Puts an event in behind the first of the part; the events behind it move up, and the last place is dropped.
-fn put_event(part: &mut [u32], minute: Minute)
-    requires { 2 ≤ length part.old }
-    ensures { part.new ≡ put_piece 1 (minute.0 ∷ []) part.old }
-{
-    shift_up(part, 1);
-    part[1] = minute.0;
+    let kept = part.len() - WIDTH;
+    part.copy_within(..kept, WIDTH);
 }
 
 // Puts an event in where it is later than the clock and missing, with a copy of the row before it.
+#[tactic(auto, using(crate::proofs::Insertion::row_below, crate::proofs::Insertion::with_event_there, crate::proofs::Insertion::with_row_there))]
 pub fn insert_event(events: &mut [u32], rows: &mut [u32], minute: Minute)
     requires { Room events.old rows.old 1 }
     ensures { (events.new ≡ with_event minute.0 events.old)
@@ -84,9 +64,9 @@ pub fn insert_event(events: &mut [u32], rows: &mut [u32], minute: Minute)
     if minute.0 <= events[row] {
         return;
     }
-    let from = row * ROW;
-    repeat_row(&mut rows[from..]);
-    put_event(&mut events[row..], minute);
+    repeat::<ROW>(&mut rows[row * ROW..]);
+    repeat::<1>(&mut events[row..]);
+    events[row + 1] = minute.0;
 }
 
 // Puts the start and the end of a span in, each where it is later than the clock and missing.

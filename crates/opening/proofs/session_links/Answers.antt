@@ -1,22 +1,43 @@
 -- `session_links` meets its contract: each way out is the number of the first check that is not passed.
+use mathlib.Core.Path.{◌≡◌, sym, ◌∙◌}
+use mathlib.Core.Bool.{true, false}
 use native.Mathlib.Omega.{arith}
-use Rattle.opening.proofs.Opening.{no_byte, count_zero, count_high, too_short, by_records}
+use lib.ListN.{length}
+use Rattle.std.proofs.lemmas.Option.{slice_get_within, get_or_from_slice_get}
+use Rattle.std.proofs.lemmas.Grind.{common_steps}
+use Rattle.units.specs.Limits.{most_links}
+use Rattle.units.specs.Lists.{within}
+use Rattle.opening.specs.Opened.{first_byte}
+use Rattle.opening.proofs.Opening.{no_byte, out_of_range, too_short, by_records}
 use Rattle.opening.proofs.session_links.Goals as goal
+use Rattle.opening.proofs.session_links.Goals.{In-Some, After-from-count}
 
-pub returns-then-bytes-eq0 : goal.returns-then-bytes-eq0
-returns-then-bytes-eq0 c = no_byte c.args.bytes.now c.no_links.ensures c.if-bytes-eq0.true
+pub returns-in_default : goal.returns-in_default
+returns-in_default c = no_byte c.args.bytes.now (grind (arith, common_steps))
 
-pub overflow_cast-count : goal.overflow_cast-count
-overflow_cast-count c = omega (arith, c.shared_slice_known-2-1.given 0)
+-- a first byte there is, and it is the count
+some : (c : In-Some) → length c.args.bytes.now ≡ 0 → ⊥
+some c z = let h = slice_get_within c.args.bytes.now 0 _ (sym c.in-Some.ensures.value) in omega arith
 
-pub returns-then-count-lt1 : goal.returns-then-count-lt1
-returns-then-count-lt1 c = count_zero c.args.bytes.now c.if-bytes-eq0.false c.no_links-then-count-lt1.ensures c.if-count-lt1.true
+counted : (c : After-from-count) → c.from-count.result ≡ first_byte c.args.bytes.now
+counted c = c.from-count.ensures ∙ sym (get_or_from_slice_get c.args.bytes.now 0 _ 0 (sym c.in-Some.ensures.value))
 
-pub returns-then-count-gt-LINKS : goal.returns-then-count-gt-LINKS
-returns-then-count-gt-LINKS c = count_high c.args.bytes.now c.if-bytes-eq0.false c.if-count-lt1.false c.no_links-then-count-gt-LINKS.ensures c.if-count-gt-LINKS.true
+pub returns-then-not-contains : goal.returns-then-not-contains
+returns-then-not-contains c =
+    let before = goal.at.returns-then-not-contains c in
+    let outside : within 1 most_links c.from-count.result ≡ false = grind (arith, common_steps) in
+    out_of_range c.args.bytes.now (some before.In-Some) (rw (counted before.After-from-count) at outside)
 
 pub returns-then-bytes-count : goal.returns-then-bytes-count
-returns-then-bytes-count c = too_short c.args.bytes.now c.if-bytes-eq0.false c.if-count-lt1.false c.if-count-gt-LINKS.false c.no_links-then-bytes-count.ensures c.if-bytes-count.true
+returns-then-bytes-count c =
+    let before = goal.at.returns-then-bytes-count c in
+    let inside : within 1 most_links c.from-count.result ≡ true = grind (arith, common_steps) in
+    let e = counted before.After-from-count in
+    too_short c.args.bytes.now (some before.In-Some) (rw e at inside) (rw e at c.if-bytes-count.true)
 
 pub returns : goal.returns
-returns c = by_records c.args.bytes.now c.if-bytes-eq0.false c.if-count-lt1.false c.if-count-gt-LINKS.false c.if-bytes-count.false c.read_links.ensures
+returns c =
+    let before = goal.at.returns c in
+    let inside : within 1 most_links c.from-count.result ≡ true = grind (arith, common_steps) in
+    let e = counted before.After-from-count in
+    by_records c.args.bytes.now (some before.In-Some) (rw e at inside) (rw e at c.if-bytes-count.false) (rw e at c.read_links.ensures)

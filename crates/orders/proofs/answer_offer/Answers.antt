@@ -13,7 +13,7 @@ pub returns-then-refusal-ne0 : goal.returns-then-refusal-ne0
 returns-then-refusal-ne0 c = let a = c.args in
     let l = links_of a.links in
     let t = lent a.head a.events.now a.free.now a.book.now in
-    let r = rw c.request_of-request.ensures at c.offer-answer.ensures in
+    let r = rw c.from-request.ensures at c.offer-answer.ensures in
     let g = carried l t (call_of (Offer a.wish)) r in
     refused l t (Offer a.wish) g.number_same c.if-refusal-ne0.true g.path_same (offer_keeps l t (request_of a.wish))
 
@@ -21,6 +21,6 @@ pub returns : goal.returns
 returns c = let a = c.args in
     let l = links_of a.links in
     let t = lent a.head a.events.now a.free.now a.book.now in
-    let r = rw c.request_of-request.ensures at c.offer-answer.ensures in
+    let r = rw c.from-request.ensures at c.offer-answer.ensures in
     let g = carried l t (call_of (Offer a.wish)) r in
     done l t (Offer a.wish) g.number_same c.if-refusal-ne0.false (ap reports.Offered g.start_same) g.path_same (offer_keeps l t (request_of a.wish))

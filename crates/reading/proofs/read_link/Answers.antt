@@ -1,18 +1,18 @@
--- `read_link` meets its contract: eight bytes make one word, and the word has the fields.
+-- `read_link` meets its contract: eight bytes make the number that has the fields.
 use mathlib.Core.Path.{◌∙◌, ap}
-use borrow.Author.Tests.{eq-eqb, ne_eqb}
+use lib.ListN.{length}
+use borrow.Author.Tests.{eq-eqb}
+use Rattle.std.specs.Result.{result_ok}
+use Rattle.std.proofs.lemmas.Option.{MatchOption-at_some}
+use Rattle.layout.specs.Layout.{big_endian, cut, link_widths}
 use Rattle.layout.specs.Records.{link_fields, link_from, link_read}
-use Rattle.layout.specs.Layout.{cut, link_widths}
-use Rattle.reading.proofs.Words.{one_word}
+use Rattle.layout.proofs.Library.{number_is}
 use Rattle.reading.proofs.read_link.Goals as goal
-
-pub returns-then-bytes-ne-LINK_BYTES : goal.returns-then-bytes-ne-LINK_BYTES
-unfolding link_read
-returns-then-bytes-ne-LINK_BYTES c = rw (ne_eqb _ _ c.if-bytes-ne-LINK_BYTES.true)
 
 pub returns : goal.returns
 unfolding link_read
 returns c =
-    let e = c.if-bytes-ne-LINK_BYTES.false in
-    rw (eq-eqb _ _ e)
-    (c.link_from.ensures ∙ ap (λ f. link_from f) (c.cut_link.ensures ∙ ap (λ n. link_fields (cut link_widths n)) (c.word.ensures ∙ one_word _ e)))
+    let piece = MatchOption-at_some _ _ _ (c.ok_or.ensures.ok_part ∙ ap result_ok c.in_ok-piece.was) c.as_array.ensures.cases in
+    rw (eq-eqb _ _ piece.long)
+    (c.try_from.ensures
+    ∙ ap (λ f. link_from f) (c.cut_link.ensures ∙ ap (λ n. link_fields (cut link_widths n)) (c.from_be_bytes.ensures ∙ number_is _ 7 (ap length piece.same ∙ piece.long) ∙ ap big_endian piece.same)))

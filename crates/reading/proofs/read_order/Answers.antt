@@ -1,21 +1,18 @@
--- `read_order` meets its contract: sixteen bytes make two words, and the words have the fields.
-use mathlib.Core.Path.{sym, ◌∙◌, ap, ap₂}
-use borrow.Author.Tests.{eq-eqb, ne_eqb}
+-- `read_order` meets its contract: sixteen bytes make the number that has the fields.
+use mathlib.Core.Path.{◌∙◌, ap}
+use lib.ListN.{length}
+use borrow.Author.Tests.{eq-eqb}
+use Rattle.std.specs.Result.{result_ok}
+use Rattle.std.proofs.lemmas.Option.{MatchOption-at_some}
+use Rattle.layout.specs.Layout.{big_endian, cut, order_widths}
 use Rattle.layout.specs.Records.{order_fields, order_from, order_read}
-use Rattle.layout.specs.Layout.{cut, order_widths}
-use Rattle.reading.proofs.Words.{two_words}
-use Prim.Native.Nat.{◌+◌, ◌*◌, ◌^◌}
+use Rattle.layout.proofs.Library.{number_is}
 use Rattle.reading.proofs.read_order.Goals as goal
-
-pub returns-then-bytes-ne-ORDER_BYTES : goal.returns-then-bytes-ne-ORDER_BYTES
-unfolding order_read
-returns-then-bytes-ne-ORDER_BYTES c = rw (ne_eqb _ _ c.if-bytes-ne-ORDER_BYTES.true)
 
 pub returns : goal.returns
 unfolding order_read
 returns c =
-    let e = c.if-bytes-ne-ORDER_BYTES.false in
-    rw (eq-eqb _ _ e)
-    (c.order_from.ensures
-    ∙ ap (λ f. order_from f) (c.cut_order.ensures
-    ∙ ap (λ n. order_fields (cut order_widths n)) (ap₂ (λ a b. a * 2 ^ 64 + b) c.word.ensures c.word-2.ensures ∙ sym (two_words _ e))))
+    let piece = MatchOption-at_some _ _ _ (c.ok_or.ensures.ok_part ∙ ap result_ok c.in_ok-piece.was) c.as_array.ensures.cases in
+    rw (eq-eqb _ _ piece.long)
+    (c.try_from.ensures
+    ∙ ap (λ f. order_from f) (c.cut_order.ensures ∙ ap (λ n. order_fields (cut order_widths n)) (c.from_be_bytes.ensures ∙ number_is _ 15 (ap length piece.same ∙ piece.long) ∙ ap big_endian piece.same)))

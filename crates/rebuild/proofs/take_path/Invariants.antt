@@ -1,9 +1,9 @@
--- What is left is to take from the links that come.
+-- `take_path` meets its contract: the bandwidth is taken from the links before `link`, and what is left is to take from the others.
 use Rattle.std.proofs.Common.{◌≡◌, drop}
-use Rattle.rebuild.specs.Rebuilding.{less_path}
+use Rattle.rebuild.specs.Rebuilding.{place_path, less_path}
 use Rattle.rebuild.proofs.take_path.Given as goal
 
 abbrev pub invariant-loop-link : goal.invariant-loop-link
 invariant-loop-link l =
-    less_path l.events l.fn.b.start.0 l.until.0 l.fn.b.bandwidth.0 l.link-items l.initial.free
-    ≡ less_path l.events l.fn.b.start.0 l.until.0 l.fn.b.bandwidth.0 (drop l.link-index l.link-items) l.free
+    let b = l.fn.b in
+    less_path l.events b.start.0 l.until.0 b.bandwidth.0 (place_path b) l.initial.free ≡ less_path l.events b.start.0 l.until.0 b.bandwidth.0 (drop l.link-index (place_path b)) l.free

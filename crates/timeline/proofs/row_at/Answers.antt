@@ -1,31 +1,31 @@
--- `row_at` meets its contract. The events before place `next` are passed, and what is left to pass stands from there on.
-use native.Mathlib.Omega.{arith}
-use Rattle.timeline.proofs.Rows.{row_at_rest, passed_zero, passed_late, passed_next, passed_past}
+-- `row_at` meets its contract: the events behind the clock are counted up to the first that is zero or after the minute.
+use Rattle.std.proofs.Common.{◌≡◌, ℕ, List, [], ◌∷◌, length, refl, ◌∙◌, sym, not, ◌&&◌, leb, eqb, rules, arith}
+use borrow.Author.Tests.{tests}
+use Rattle.std.proofs.lemmas.Iterator.{YieldsList-from_slice}
+use Rattle.std.proofs.lemmas.Iterator.Search.{YieldsList-from_take_while}
+use Rattle.std.proofs.lemmas.Iterator.Consumers.{count_from_yields_List}
+use Rattle.std.proofs.lemmas.List.Folds.{length-prefix_len}
+use Rattle.timeline.specs.Events.{passed, row_at}
+use Rattle.timeline.proofs.Rows.{passed_first}
 use Rattle.timeline.proofs.row_at.Goals as goal
 
-pub loop-next-init : goal.loop-next-init
-loop-next-init c = (omega arith, omega (arith, row_at_rest c.args.minute.0 c.args.events.now))
+none : (m : ℕ) (es : List ℕ) → length es ≡ 0 → 0 ≡ row_at es m
+unfolding row_at
+none m [] h = refl
+none m (c ∷ es) h = absurd (omega arith)
 
-pub returns-then-event-eq0 : goal.returns-then-event-eq0
-returns-then-event-eq0 c =
-    let l = c.loop-next in
-    let a = c.args in
-    omega (arith, passed_zero a.minute.0 a.events.now l.next (omega arith) c.if-event-eq0.true)
+behind : (m clock : ℕ) (later es : List ℕ) → es ≡ clock ∷ later → passed m later ≡ row_at es m
+unfolding row_at
+behind m clock later es h = rw h refl
 
-pub returns-then-minute-event : goal.returns-then-minute-event
-returns-then-minute-event c =
-    let l = c.loop-next in
-    let a = c.args in
-    omega (arith, passed_late a.minute.0 a.events.now l.next (omega arith) c.if-minute-event.true)
-
-pub loop-next-preserved : goal.loop-next-preserved
-loop-next-preserved c =
-    let l = c.loop-next in
-    let a = c.args in
-    (omega arith, omega (arith, passed_next a.minute.0 a.events.now l.next (omega arith) c.if-event-eq0.false c.if-minute-event.false))
+pub returns-in_default : goal.returns-in_default
+returns-in_default c = none c.args.minute.0 c.args.events.now c.in_default.ensures.cases
 
 pub returns : goal.returns
 returns c =
-    let l = c.loop-next in
-    let a = c.args in
-    omega (arith, passed_past a.minute.0 a.events.now l.next (omega arith))
+    let m = c.args.minute.0 in
+    let later = c.in-Some.later.now in
+    count_from_yields_List c.take_while.result _ c.count.ensures.ran (YieldsList-from_take_while _ (λ e. not (eqb e 0) && leb e m) (YieldsList-from_slice later (cc)) c.take_while.ensures.closure (cc) (λ x b q k. search (rules, tests)))
+    ∙ length-prefix_len (λ e. not (eqb e 0) && leb e m) later
+    ∙ sym (passed_first m later)
+    ∙ behind m c.in-Some.field-0-0.now later c.args.events.now c.in-Some.ensures.cases.0

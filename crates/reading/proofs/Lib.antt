@@ -1,3 +1,0 @@
--- Laws that the proofs of the readers share.
-pub mod Words
-pub mod Unknown

@@ -1,5 +1,0 @@
--- The measure of the recursion is the number.
-use Rattle.report.proofs.+write_decimal.Given as goal
-
-abbrev pub decreases-write_decimal : goal.decreases-write_decimal
-decreases-write_decimal l = l.value
