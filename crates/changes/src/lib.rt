@@ -25,7 +25,7 @@ pub fn reset(links: LinkTable, events: &mut [u32], free: &mut [u32], book: &mut 
     ensures { (lent result events.new free.new book.new) ≡ tables (links_of links) empty }
 {
     reset_events(events, Minute(0));
-    reset_free(free, &links.capacity, links.count);
+    reset_free(free, &links.capacity[..links.count]);
     clear_from(book, 0);
     Head {
         clock: Minute(0),

@@ -78,7 +78,7 @@ pub fn rebuild(
         × ((result ≡ true) ↔ NotOversold (links_of links) (held_by head book.now)) }
 {
     reset_events(events, head.clock);
-    reset_free(free, &links.capacity, links.count);
+    reset_free(free, &links.capacity[..links.count]);
     let mut fits = true;
     let mut place = head.bookings as usize;
     while 0 < place {

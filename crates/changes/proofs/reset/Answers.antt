@@ -3,10 +3,12 @@ use mathlib.Core.Path.{ap, ◌∙◌}
 use Prim.Native.Nat.{◌-◌, ◌≤◌}
 use native.Mathlib.Omega.{arith}
 use lib.ListN.{length, replicate}
+use lib.Seq.{length-take-le}
 use Rattle.units.specs.Limits.{most_links}
 use Rattle.units.specs.LinkTables.{links_of}
 use Rattle.timeline.specs.EventTable.{only_clock}
 use Rattle.free_table.specs.Figures.{all_free}
+use Rattle.free_table.proofs.Tables.{all_free_part}
 use Rattle.rules.specs.Tables.{lent}
 use Rattle.rules.proofs.Tests.{Sized, sized_tells}
 use Rattle.rules.proofs.LinkColumns.{links_count, capacities_long}
@@ -28,7 +30,9 @@ pub reset_events-requires : goal.reset_events-requires
 reset_events-requires c = omega (arith, (right (goal.at.reset_events-requires c).Start).events_right)
 
 pub reset_free-requires : goal.reset_free-requires
-reset_free-requires c = record { fits = omega (arith, (right (goal.at.reset_free-requires c).Start).free_right, few (goal.at.reset_free-requires c).Start); given = given (goal.at.reset_free-requires c).Start }
+reset_free-requires c =
+    let s = (goal.at.reset_free-requires c).Start in
+    omega (arith, length-take-le s.args.links.count s.args.links.capacity (given s), (right s).free_right, few s)
 
 pub overflow_cast-result : goal.overflow_cast-result
 overflow_cast-result c = omega (arith, few (goal.at.overflow_cast-result c).Start)
@@ -36,5 +40,5 @@ overflow_cast-result c = omega (arith, few (goal.at.overflow_cast-result c).Star
 pub returns : goal.returns
 returns c =
     reset_tables c.args.links (few (goal.at.returns c).Start) (given (goal.at.returns c).Start) (c.reset_events.ensures ∙ ap (λ n. only_clock n 0) (right (goal.at.returns c).Start).events_right)
-    (c.reset_free.ensures ∙ ap (λ n. all_free n c.args.links.count c.args.links.capacity) (right (goal.at.returns c).Start).free_right)
+    (c.reset_free.ensures ∙ all_free_part _ c.args.links.count c.args.links.capacity ∙ ap (λ n. all_free n c.args.links.count c.args.links.capacity) (right (goal.at.returns c).Start).free_right)
     (c.clear_from.ensures ∙ ap (λ n. replicate (n - 0) 0) (right (goal.at.returns c).Start).book_right)

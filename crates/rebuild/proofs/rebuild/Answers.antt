@@ -6,11 +6,13 @@ use mathlib.Core.Bool.{Bool, true, false, ◌&&◌}
 use Prim.Native.Nat.{ℕ, ◌-◌, ◌*◌, ◌≤◌}
 use native.Mathlib.Omega.{arith}
 use lib.ListN.{length}
+use lib.Seq.{length-take-le}
 use Rattle.units.specs.declared.LinkTable.{LinkTable}
 use Rattle.units.specs.Limits.{most_links, most_events}
 use Rattle.units.specs.LinkTables.{links_of}
 use Rattle.timeline.specs.EventTable.{only_clock}
 use Rattle.free_table.specs.Figures.{all_free}
+use Rattle.free_table.proofs.Tables.{all_free_part}
 use Rattle.rebuild.specs.Rebuilding.{CanRebuild}
 use Rattle.rules.proofs.LinkColumns.{capacities_long}
 use Rattle.rebuild.proofs.Rebuilt.{Rebuilt, from_place, from_first, rebuilt_none, place_sizes, place_asks, place_gives}
@@ -27,7 +29,7 @@ at_place c =
     c.loop-place.invariant.1 a.links a.events.now a.free.now c.requires
     (rebuilt_none a.links a.head a.book.now c.requires.few_links (omega (arith, capacities_long a.links c.well_formed.1.0, c.requires.few_links)) _ _
     (c.reset_events.ensures ∙ ap (λ n. only_clock n a.head.clock.0) c.requires.events_sized)
-    (c.reset_free.ensures ∙ ap (λ n. all_free n a.links.count a.links.capacity) c.requires.free_sized))
+    (c.reset_free.ensures ∙ all_free_part _ a.links.count a.links.capacity ∙ ap (λ n. all_free n a.links.count a.links.capacity) c.requires.free_sized))
 
 -- the tables have their sizes still
 sizes : (c : At-loop-place) → (length c.loop-place.events ≡ most_events) × (length c.loop-place.free ≡ most_events * most_links)
@@ -53,7 +55,7 @@ reset_events-requires c = omega (arith, c.requires.events_sized)
 
 pub reset_free-requires : goal.reset_free-requires
 reset_free-requires c =
-    record { fits = omega (arith, c.requires.free_sized, c.requires.few_links); given = capacities_given (goal.at.reset_free-requires c).Start }
+    omega (arith, length-take-le c.args.links.count c.args.links.capacity (capacities_given (goal.at.reset_free-requires c).Start), c.requires.free_sized, c.requires.few_links)
 
 pub loop-place-init : goal.loop-place-init
 loop-place-init c = (omega arith, λ links es t can r. r)
