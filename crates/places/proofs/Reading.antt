@@ -1,19 +1,14 @@
 -- Reading the places of a book table one after the other: each gives what its figures say, whatever stands around it.
 use mathlib.Core.Path.{◌≡◌, refl, sym, ap, ap₂, ◌∙◌}
 use mathlib.Core.List.{List, [], ◌∷◌, ◌++◌, map, flatten, append_assoc}
-use Prim.Native.Nat.{ℕ, suc, ◌+◌, ◌-◌, ◌*◌, ◌<◌}
+use Prim.Native.Nat.{ℕ, suc, ◌-◌, ◌*◌}
 use native.Mathlib.Omega.{arith}
-use lib.ListN.{length, get_or, drop, replicate, length-append}
-use lib.Seq.{get_or-take, get_or-drop}
+use lib.ListN.{length, replicate, length-append}
 use Rattle.units.specs.Lists.{count_from, All}
 use Rattle.units.proofs.Padded.{Rows}
-use Rattle.places.specs.Places.{place_in, only_places}
+use Rattle.places.specs.Places.{only_places}
 
 module _ (size : ℕ) where
-  -- figure k of a place
-  pub figure_in : (book : List ℕ) (i k : ℕ) → k < size → get_or book (i * size + k) 0 ≡ get_or (place_in size book i) k 0
-  figure_in book i k h = sym (get_or-take size (drop (i * size) book) k 0 h ∙ get_or-drop (i * size) book k 0)
-
   module _ {A B : Type 0} (f : A → List ℕ) (read : List ℕ → ℕ → B) (is : A → B) where
     -- from a place with the figures of x, whatever stands before and behind it, the reader reads this
     abbrev pub Reads : A → Type 0
