@@ -17,10 +17,10 @@ use Rattle.path_search.specs.Paths.{Graph}
 use Rattle.path_search.specs.Answer.{graph}
 use Rattle.choice.specs.Choice.{Grant, Choice, granted, no_start, route_at, try_at, possible, choose}
 use Rattle.choice.specs.declared.asked.Asked.{Asked}
-use Rattle.choice.specs.Answer.{wanted, carried, possible_of, choice_of, chosen}
+use Rattle.choice.specs.Answer.{wanted, carried, route_of, possible_of, choice_of, chosen}
 use Rattle.choice.proofs.Starts.{ChoiceFound, found, none_found, choice_found}
 use Rattle.choice.proofs.Possible.{grant_starts}
-use Rattle.choice.proofs.Exits.{clock, times, carried_back}
+use Rattle.choice.proofs.Exits.{clock, times, carried_back, try_of}
 use Rattle.listing.specs.Ranges.{Range, ranges_from, ranges, figures, list_table, start_of}
 use Rattle.listing.specs.Right.{RunEnd}
 use Rattle.listing.proofs.Laws.{IsRange, AreRanges, fails_first, are_ranges, are_only}
@@ -40,15 +40,16 @@ pub start_answered : (c : Choice Grant) → result_ok (chosen c).choice ≡ star
 start_answered (granted g) = refl
 start_answered no_start = refl
 
--- it lies in the window
-pub start_within : (g : Graph) (carries : ℕ → ℕ → Bool) (from to low latest : ℕ) (m : Minute) → start_of (choose g carries from to low latest) ≡ Some m → m.0 ≤ latest
-start_within g carries from to low latest m e = by (choice_found (try_at g carries from to) low latest)
+-- it lies in the window and is possible
+pub start_found : (asked : Asked) (low latest : ℕ) (m : Minute) → start_of (choice_of asked low latest) ≡ Some m → (low ≤ m.0) × (m.0 ≤ latest) × (possible_of asked m.0 ≡ true)
+start_found asked low latest m e = by (choice_found (try_of asked) low latest)
   where
-    by : ChoiceFound (try_at g carries from to) low latest → m.0 ≤ latest
+    by : ChoiceFound (try_of asked) low latest → (low ≤ m.0) × (m.0 ≤ latest) × (possible_of asked m.0 ≡ true)
     by (found first c f t p) =
         let same : ◌≡◌ {A = Option Minute} (Some (record { 0 = c.start })) (Some m) = sym (ap start_of p) ∙ e in
         let is : record { 0 = c.start } ≡ m = cc in
-        omega (arith, ap (λ (x : Minute). x.0) is, grant_starts first (route_at g carries from to first) t, f.high)
+        let at_first : m.0 ≡ first = sym (ap (λ (x : Minute). x.0) is) ∙ grant_starts first (route_of asked first) t in
+        (omega (arith, f.low), omega (arith, f.high), rw at_first f.passes)
     by (none_found f p) = let same : ◌≡◌ {A = Option Minute} None (Some m) = sym (ap start_of p) ∙ e in absurd (let z : ◌≡◌ {A = ℕ} 0 1 = cc in omega arith)
 
 -- s is the first minute from e on that passes, or the end of the window
@@ -202,12 +203,6 @@ module _ (asked : Asked) (low latest first : ℕ) (is_first : first ≡ start_or
   }
 
   module _ (list : List ℕ) (count start : ℕ) (l : ListedTo list count start) where
-    pub start_passes : start ≤ latest → test start ≡ true
-    start_passes h = l.found_to.passes (omega arith)
-
-    pub start_after : start ≤ latest → low ≤ start
-    start_after h = let n = l.found_to.not_before in let k = (in_window.1 (omega arith)).0 in omega arith
-
     module _ (inside : start ≤ latest) (e : ℕ) (r : RunEnd test start (suc latest) e) where
       -- there is room for one more
       pub listed_few : clock asked ≤ low → length asked.table.events.now ≤ most_ranges → count < most_ranges

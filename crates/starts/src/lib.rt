@@ -25,7 +25,6 @@ fn search_of(head: Head, links: LinkTable, request: Request) -> Search
 {
     let from = links.from;
     let to = links.to;
-    let bandwidth = request.bandwidth;
     Search {
         ends: LinkEnds {
             count: links.count,
@@ -34,7 +33,7 @@ fn search_of(head: Head, links: LinkTable, request: Request) -> Search
         },
         source: request.from,
         destination: request.to,
-        bandwidth,
+        bandwidth: request.bandwidth,
         span: Duration(span_of(head, request.duration) as u32),
     }
 }

@@ -1,4 +1,5 @@
 -- list_ranges meets its contract. The ranges before the next start are found, counted and written.
+use mathlib.Core.Bool.{true}
 use mathlib.Core.Path.{◌≡◌, sym, ◌∙◌, ap, subst}
 use Prim.Native.Nat.{suc, ◌-◌, ◌*◌, ◌≤◌, ◌<◌}
 use native.Mathlib.Nat.{le_refl}
@@ -14,7 +15,7 @@ use Rattle.path_search.specs.Answer.{graph}
 use Rattle.choice.specs.Answer.{wanted, carried, possible_of, choice_of}
 use Rattle.choice.proofs.Exits.{askable_part}
 use Rattle.listing.specs.Ranges.{start_of}
-use Rattle.listing.proofs.Found.{Listed, NextStart, minute_or, start_or, start_answered, start_within, next_start, listed_first, start_after, start_passes, listed_few, listed_next, all_counted, all_written}
+use Rattle.listing.proofs.Found.{Listed, NextStart, minute_or, start_or, start_answered, start_found, next_start, listed_first, listed_few, listed_next, all_counted, all_written}
 use Rattle.listing.proofs.list_ranges.Goals as goal
 use Rattle.listing.proofs.list_ranges.Goals.{After-ok-next, In-Some, After-run_end-end, After-next_start-next}
 
@@ -31,18 +32,15 @@ listed_to c =
     subst (Listed (possible_of c.args.asked.now) c.args.latest.0 (minute_or (suc c.args.latest.0) c.ok-next.result) c.loop-next.list c.loop-next.count)
     (ap (minute_or (suc c.args.latest.0)) c.in-Some.is) c.loop-next.invariant.listed
 
-inside : (c : In-Some) → c.in-Some.start.0 ≤ c.args.latest.0
-inside c = c.loop-next.invariant.within c.in-Some.start c.in-Some.is
-
-behind_low : (c : In-Some) → c.args.low.0 ≤ c.in-Some.start.0
-behind_low c =
-    start_after c.args.asked.now c.args.low.0 c.args.latest.0 (minute_or (suc c.args.latest.0) c.ok-next.result) (first_or (goal.at.In-Some c).After-ok-next) c.loop-next.list c.loop-next.count c.in-Some.start.0 (listed_to c) (inside c)
+-- it is possible
+looked_at : (c : In-Some) → (c.args.low.0 ≤ c.in-Some.start.0) × (c.in-Some.start.0 ≤ c.args.latest.0) × (possible_of c.args.asked.now c.in-Some.start.0 ≡ true)
+looked_at c = c.loop-next.invariant.in_window c.in-Some.start c.in-Some.is
 
 -- where a range is found there is a place for it
 room : (c : After-run_end-end) → c.loop-next.count < most_ranges
 room c =
     let at = goal.at.After-run_end-end c in
-    listed_few c.args.asked.now c.args.low.0 c.args.latest.0 (minute_or (suc c.args.latest.0) c.ok-next.result) (first_or at.After-ok-next) c.loop-next.list c.loop-next.count c.in-Some.start.0 (listed_to at.In-Some) (inside at.In-Some)
+    listed_few c.args.asked.now c.args.low.0 c.args.latest.0 (minute_or (suc c.args.latest.0) c.ok-next.result) (first_or at.After-ok-next) c.loop-next.list c.loop-next.count c.in-Some.start.0 (listed_to at.In-Some) (looked_at at.In-Some).1
     c.run_end-end.result.0 c.run_end-end.ensures c.requires.askable.not_past c.requires.events_fit
 
 -- the next start, or the minute after the window
@@ -57,17 +55,13 @@ loop-next-init c =
     let a = c.args.asked.now in
     record {
       listed = listed_first a c.args.low.0 c.args.latest.0 (minute_or (suc c.args.latest.0) c.ok-next.result) (first_or (goal.at.loop-next-init c).After-ok-next) c.args.list.now c.requires.list_sized;
-      within = λ m e. start_within (graph a.search.now.ends) (carried (wanted a.search.now) a.table.events.now a.table.figures.now) a.search.now.source a.search.now.destination c.args.low.0 c.args.latest.0 m (sym (first_is (goal.at.loop-next-init c).After-ok-next) ∙ e);
+      in_window = λ m e. start_found a c.args.low.0 c.args.latest.0 m (sym (first_is (goal.at.loop-next-init c).After-ok-next) ∙ e);
     }
 
 pub run_end-end-requires : goal.run_end-end-requires
 run_end-end-requires c =
-    let at = (goal.at.run_end-end-requires c).In-Some in
-    record {
-      askable = askable_part c.requires.askable c.in-Some.start.0 c.args.latest.0 (behind_low at) (le_refl _);
-      in_window = inside at;
-      possible = start_passes c.args.asked.now c.args.low.0 c.args.latest.0 (minute_or (suc c.args.latest.0) c.ok-next.result) (first_or (goal.at.run_end-end-requires c).After-ok-next) c.loop-next.list c.loop-next.count c.in-Some.start.0 (listed_to at) (inside at);
-    }
+    let start = looked_at (goal.at.run_end-end-requires c).In-Some in
+    record { askable = askable_part c.requires.askable c.in-Some.start.0 c.args.latest.0 start.0 (le_refl _); in_window = start.1; possible = start.2 }
 
 pub bounds-list-place : goal.bounds-list-place
 bounds-list-place c = omega (arith, room (goal.at.bounds-list-place c).After-run_end-end, c.loop-next.invariant.listed.sized)
@@ -77,21 +71,21 @@ bounds-list-place-in-Some c = simp length-set (omega (arith, room (goal.at.bound
 
 pub next_start-next-requires-clause-askable : goal.next_start-next-requires-clause-askable
 next_start-next-requires-clause-askable c =
-    askable_part c.requires.askable c.run_end-end.result.0 c.args.latest.0 (omega (arith, behind_low (goal.at.next_start-next-requires-clause-askable c).In-Some, c.run_end-end.ensures.after)) (le_refl _)
+    askable_part c.requires.askable c.run_end-end.result.0 c.args.latest.0 (omega (arith, looked_at (goal.at.next_start-next-requires-clause-askable c).In-Some, c.run_end-end.ensures.after)) (le_refl _)
 
 pub loop-next-smaller : goal.loop-next-smaller
 loop-next-smaller c =
     let at = goal.at.loop-next-smaller c in
-    omega (arith, inside at.In-Some, ap (minute_or (suc c.args.latest.0)) c.in-Some.is, c.run_end-end.ensures.after, (following at.After-next_start-next).not_before)
+    omega (arith, looked_at at.In-Some, ap (minute_or (suc c.args.latest.0)) c.in-Some.is, c.run_end-end.ensures.after, (following at.After-next_start-next).not_before)
 
 pub loop-next-preserved : goal.loop-next-preserved
 loop-next-preserved c =
     let at = goal.at.loop-next-preserved c in
     let a = c.args.asked.now in
     record {
-      listed = listed_next a c.args.low.0 c.args.latest.0 (minute_or (suc c.args.latest.0) c.ok-next.result) (first_or at.After-ok-next) c.loop-next.list c.loop-next.count c.in-Some.start.0 (listed_to at.In-Some) (inside at.In-Some)
+      listed = listed_next a c.args.low.0 c.args.latest.0 (minute_or (suc c.args.latest.0) c.ok-next.result) (first_or at.After-ok-next) c.loop-next.list c.loop-next.count c.in-Some.start.0 (listed_to at.In-Some) (looked_at at.In-Some).1
           c.run_end-end.result.0 c.run_end-end.ensures (minute_or (suc c.args.latest.0) c.next_start-next.result) (following at.After-next_start-next) (room at.After-run_end-end);
-      within = λ m e. start_within (graph a.search.now.ends) (carried (wanted a.search.now) a.table.events.now a.table.figures.now) a.search.now.source a.search.now.destination c.run_end-end.result.0 c.args.latest.0 m (sym c.next_start-next.ensures ∙ e);
+      in_window = λ m e. let found = start_found a c.run_end-end.result.0 c.args.latest.0 m (sym c.next_start-next.ensures ∙ e) in (omega (arith, looked_at at.In-Some, c.run_end-end.ensures.after, found), found.1, found.2);
     }
 
 pub returns : goal.returns

@@ -2,30 +2,17 @@
 -- node needs that many.
 use mathlib.Core.Path.{refl, sym, ◌∙◌}
 use native.Mathlib.Numerals.{add-one}
-use native.Mathlib.Omega.{arith}
-use Rattle.path_search.proofs.Done.{begun, few, goes_on, ends}
+use Rattle.path_search.proofs.Done.{begun, goes_on, ends}
 use Rattle.path_search.proofs.Network.distances.Goals as goal
 
 pub loop-near-init : goal.loop-near-init
 loop-near-init c = begun c.args.self c.args.destination c.start-table.result c.start-table.ensures
-
-pub round-requires : goal.round-requires
-round-requires c = few c.args.self c.args.destination c.loop-near.table c.loop-near.near c.loop-near.invariant
-
-pub overflow_add-near : goal.overflow_add-near
-overflow_add-near c = omega (arith, few c.args.self c.args.destination c.loop-near.table c.loop-near.near c.loop-near.invariant)
-
-pub loop-near-smaller : goal.loop-near-smaller
-loop-near-smaller c = omega (arith, few c.args.self c.args.destination c.loop-near.table c.loop-near.near c.loop-near.invariant)
 
 pub loop-near-preserved : goal.loop-near-preserved
 loop-near-preserved c =
     let l = c.loop-near in
     let r = c.round.ensures in
     rw add-one (goes_on c.args.self c.args.destination l.table l.near l.invariant c.round.new.table r.shows (sym r.reached ∙ c.loop-near-test.true))
-
-pub overflow_add-result : goal.overflow_add-result
-overflow_add-result c = omega (arith, few c.args.self c.args.destination c.loop-near.table c.loop-near.near c.loop-near.invariant)
 
 pub returns : goal.returns
 returns c =

@@ -2,23 +2,15 @@
 use mathlib.Core.Path.{◌≡◌, refl, sym, ◌∙◌, subst, subst₂}
 use Prim.Native.Nat.{◌+◌}
 use native.Mathlib.Omega.{arith}
+use Rattle.std.proofs.Math.Bool.{or-true, or-false}
 use lib.ListN.{length, set}
 use Rattle.std.proofs.lemmas.List.{set-get_or}
-use mathlib.Core.Bool.{Bool, true, false, ◌||◌}
 use borrow.Author.Rules.{rules}
 use Rattle.path_search.specs.Rounds.{figures}
 use Rattle.path_search.specs.Answer.{graph_of, usable_in}
 use Rattle.path_search.proofs.Rounds.{Used, used_none, tested, used_nearer, used_not}
 use Rattle.path_search.proofs.Network.round.Goals as goal
 use Rattle.path_search.proofs.Network.round.Goals.{then-nearer, else-nearer}
-
-or_true : (t : Bool) → (t || true) ≡ true
-or_true true = refl
-or_true false = refl
-
-or_false : (t : Bool) → (t || false) ≡ t
-or_false true = refl
-or_false false = refl
 
 pub loop-link-init : goal.loop-link-init
 loop-link-init c = used_none (graph_of c.args.self) (usable_in c.args.self) (figures c.args.table.now) c.args.near c.args.table.now (λ v k. refl)
@@ -36,10 +28,10 @@ loop-link-preserved c =
     elim c.if-nearer.branch [
       | then-nearer w ↦
           rw (w.table-is, w.if-nearer.true)
-          (subst (λ r. Used g u f near (set l.table (g.from l.link) (near + 1)) r (l.link + 1)) (sym (or_true l.reached))
+          (subst (λ r. Used g u f near (set l.table (g.from l.link) (near + 1)) r (l.link + 1)) (sym (or-true l.reached))
           (used_nearer g u f near l.table l.reached l.link l.invariant (test ∙ w.if-nearer.true) (let long : length l.table ≡ 32 = search rules in omega arith)))
       | else-nearer w ↦
           rw (w.table-is, w.if-nearer.false)
-          (subst₂ (λ t r. Used g u f near t r (l.link + 1)) (sym (set-get_or l.table (g.from l.link) 0)) (sym (or_false l.reached))
+          (subst₂ (λ t r. Used g u f near t r (l.link + 1)) (sym (set-get_or l.table (g.from l.link) 0)) (sym (or-false l.reached))
           (used_not g u f near l.table l.reached l.link l.invariant (test ∙ w.if-nearer.false)))
     ]
