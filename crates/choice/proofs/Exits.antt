@@ -1,128 +1,130 @@
 -- What the code may answer at each of its exits: the laws of `Starts`, on the lent tables and the code's own values.
 use mathlib.Core.Path.{◌≡◌, refl, sym, ◌∙◌, ap, subst}
 use mathlib.Core.List.{List}
-use mathlib.Core.Bool.{Bool, true, false}
+use mathlib.Core.Bool.{Bool, true}
 use Prim.Native.Nat.{ℕ, ◌≤◌, ◌<◌}
-use native.Mathlib.Decide.{dec_lt}
 use native.Mathlib.Omega.{arith}
-use borrow.Author.Tests.{lt-ltb, le-ltb}
-use lib.Dec.{ltb}
-use lib.ListN.{length, get_or, length-append, get_or-eq_default}
-use Rattle.units.specs.Lists.{padded}
+use lib.ListN.{length, get_or, drop, length-append, get_or-eq_default}
+use Rattle.std.proofs.Common.{Option, Some, None}
+use Rattle.std.specs.Option.{is_some}
 use Rattle.units.proofs.Tests.{Side, below, above, side}
 use Rattle.timeline.specs.Events.{events}
 use Rattle.timeline.proofs.Steady.{NoneBetween}
-use Rattle.free_table.specs.Figures.{kept}
-use Rattle.choice.specs.declared.Search.{Search}
 use Rattle.path_search.specs.declared.Path.{Path}
 use Rattle.path_search.specs.Paths.{Graph, Route, along, none}
-use Rattle.path_search.specs.Answer.{path_of, answer}
-use Rattle.path_search.proofs.Answers.{route_sized, answer_none}
+use Rattle.path_search.specs.Answer.{graph, path_of, found_path}
+use Rattle.choice.specs.declared.asked.Asked.{Asked}
 use Rattle.choice.specs.declared.Chosen.{Chosen}
-use Rattle.choice.specs.Choice.{Grant, Choice, granted, grant_at, route_at, try_at, possible, choose}
-use Rattle.choice.specs.Carrying.{carries}
-use Rattle.choice.specs.Answer.{Askable, start_with, refusal, chosen}
+use Rattle.choice.specs.Choice.{Grant, Choice, granted, grant_at, route_at, try_at, possible}
+use Rattle.choice.specs.EventTables.{clock_of}
+use Rattle.choice.specs.Answer.{wanted, carried, route_of, possible_of, choice_of, Askable, start_with, refusal, chosen}
 use Rattle.choice.proofs.Starts.{Tried, earliest_none, earliest_low, earliest_event, earliest_none_left, earliest_too_late, granted_can_start, no_start_cannot}
 use Rattle.choice.proofs.Possible.{possible_back}
 use Rattle.choice.proofs.Lent.{kept_back, event_at}
 
--- ---- a route by its count of links
+-- ---- a route, where there is one
 
-module _ (g : Graph) (usable : ℕ → ℕ → Bool) (from to m : ℕ) (r : Path) (answered : r ≡ answer (route_at g usable from to m)) where
-  -- an answer with a link is the route
-  route_found : 0 < r.count → (path : List ℕ) × (route_at g usable from to m ≡ along path) × (r ≡ path_of path)
-  route_found some = by (route_at g usable from to m) refl
+module _ (g : Graph) (usable : ℕ → ℕ → Bool) (from to m : ℕ) (r : Option Path) (answered : r ≡ found_path (route_at g usable from to m)) where
+  -- a path that was found is the route
+  route_found : (p : Path) → r ≡ Some p → (path : List ℕ) × (route_at g usable from to m ≡ along path) × (p ≡ path_of path)
+  route_found p some = by (route_at g usable from to m) refl
     where
-      by : (x : Route) → route_at g usable from to m ≡ x → (path : List ℕ) × (route_at g usable from to m ≡ along path) × (r ≡ path_of path)
-      by (along path) e = (path, e, answered ∙ ap answer e)
-      by none e = absurd (omega (arith, ap (λ (p : Path). p.count) (answered ∙ ap answer e)))
-
-  -- without one the start is not possible
-  pub no_route : r.count ≤ 0 → possible g usable from to m ≡ false
-  no_route few =
-      no_start_cannot (try_at g usable from to) m
-      (ap (grant_at m) (answer_none (route_at g usable from to m) (route_sized g (usable m) to from) (omega (arith, ap (λ (p : Path). p.count) answered))))
+      by : (x : Route) → route_at g usable from to m ≡ x → (path : List ℕ) × (route_at g usable from to m ≡ along path) × (p ≡ path_of path)
+      by (along path) e = let q : Some p ≡ Some (path_of path) = sym some ∙ answered ∙ ap found_path e in (path, e, cc)
+      by none e = let q : Some p ≡ None = sym some ∙ answered ∙ ap found_path e in absurd (let z : ◌≡◌ {A = ℕ} 0 1 = cc in omega arith)
 
   -- so the start is possible if and only if there is one
-  pub possible_counts : ltb 0 r.count ≡ possible g usable from to m
-  possible_counts =
-      elim (dec_lt 0 r.count) [
-        | yes h ↦ lt-ltb 0 r.count h ∙ sym (granted_can_start (try_at g usable from to) m (ap (grant_at m) (route_found h).1))
-        | no h ↦ le-ltb 0 r.count (omega arith) ∙ sym (no_route (omega arith))
-      ]
+  some_route : is_some r ≡ possible g usable from to m
+  some_route = by (route_at g usable from to m) refl
+    where
+      by : (x : Route) → route_at g usable from to m ≡ x → is_some r ≡ possible g usable from to m
+      by (along path) e = ap is_some (answered ∙ ap found_path e) ∙ sym (granted_can_start (try_at g usable from to) m (ap (grant_at m) e))
+      by none e = ap is_some (answered ∙ ap found_path e) ∙ sym (no_start_cannot (try_at g usable from to) m (ap (grant_at m) e))
 
 -- ---- the exits
 
 -- a part of the window may be asked for
-pub askable_part : {s : Search} {es t : List ℕ} {low latest : ℕ} → Askable s es t low latest → (from until : ℕ) → low ≤ from → until ≤ latest → Askable s es t from until
-askable_part a from until early late = record {
-  in_range = a.in_range;
-  sized = a.sized;
-  clock = a.clock;
-  times = a.times;
-  are_events = a.are_events;
-  not_past = omega (arith, a.not_past);
-  lasts = a.lasts;
-  in_time = omega (arith, a.in_time);
-}
+pub askable_part : {es : List ℕ} {span low latest : ℕ} → Askable es span low latest → (from until : ℕ) → low ≤ from → until ≤ latest → Askable es span from until
+askable_part a from until early late = record { not_past = omega (arith, a.not_past); in_time = omega (arith, a.in_time) }
 
--- each minute alone
-pub askable_at : {s : Search} {es t : List ℕ} {low latest : ℕ} → Askable s es t low latest → (m : ℕ) → low ≤ m → m ≤ latest → Askable s es t m m
-askable_at a m early late = askable_part a m m early late
+module _ (a : Asked) where
+  abbrev es : List ℕ
+  es = a.table.events.now
 
-module _ (g : Graph) (es t : List ℕ) (bandwidth duration from to low latest c : ℕ) (ts : List ℕ) (shown : es ≡ padded (length es) (events c ts)) (early : c ≤ low) where
-  abbrev carried : ℕ → ℕ → Bool
-  carried = carries (kept es t) bandwidth duration
+  -- the clock and the times of the table
+  abbrev pub clock : ℕ
+  clock = clock_of es
 
-  abbrev try : ℕ → Choice Grant
-  try = try_at g carried from to
+  abbrev pub times : List ℕ
+  times = drop 1 es
 
-  abbrev test : ℕ → Bool
-  test = possible g carried from to
+  abbrev g : Graph
+  g = graph a.search.now.ends
 
-  abbrev Answered : Chosen → Type 0
-  Answered r = r ≡ chosen (choose g carried from to low latest)
+  abbrev carries_it : ℕ → ℕ → Bool
+  carries_it = carried (wanted a.search.now) es a.table.figures.now
 
-  back : (k m : ℕ) → k ≤ m → NoneBetween ts k m → test m ≡ true → test k ≡ true
-  back = possible_back g carried from to ts (kept_back c ts es t shown bandwidth duration)
+  abbrev from : ℕ
+  from = a.search.now.source
 
-  place : (i : ℕ) → get_or es i 0 ≡ get_or (events c ts) i 0
-  place = event_at c ts es t shown bandwidth duration
+  abbrev to : ℕ
+  to = a.search.now.destination
 
-  tried_events : (i : ℕ) → Tried test es low latest i → Tried test (events c ts) low latest i
-  tried_events i h = record { not_low = h.not_low; not_events = λ j a b d. rw (place j) at (h.not_events j a (rw (place j) b) (rw (place j) d)) }
+  abbrev pub try_of : ℕ → Choice Grant
+  try_of = try_at g carries_it from to
 
-  -- a window that ends before it begins has no start
-  pub answer_empty : latest < low → Answered refusal
-  answer_empty h = sym (ap chosen (earliest_none try low latest (λ m a b. absurd (omega arith))))
+  -- what the links carry, they carry from an earlier start
+  pub carried_back : (k m l : ℕ) → k ≤ m → NoneBetween times k m → carries_it m l ≡ true → carries_it k l ≡ true
+  carried_back = kept_back clock times es a.table.figures.now a.are_events a.search.now.bandwidth.0 a.search.now.span.0
 
-  -- low, where it has a path
-  pub answer_low : low ≤ latest → (r : Path) → r ≡ answer (route_at g carried from to low) → 0 < r.count → Answered (start_with (record { 0 = low }) r)
-  answer_low h r e some =
-      let f = route_found g carried from to low r e some in
-      ap (start_with (record { 0 = low })) f.2 ∙ sym (ap chosen (earliest_low try c ts back low latest early (record { start = low; path = f.0 }) h (ap (grant_at low) f.1)))
+  -- the path of a minute tells whether it is possible
+  pub possible_some : (m : ℕ) (r : Option Path) → r ≡ found_path (route_of a m) → is_some r ≡ possible_of a m
+  possible_some = some_route g carries_it from to
 
-  module _ (i : ℕ) (tried : Tried test es low latest i) where
-    -- the next event, where it lies in the window and has a path
-    pub answer_event : low < get_or es i 0 → get_or es i 0 ≤ latest → (r : Path) → r ≡ answer (route_at g carried from to (get_or es i 0)) → 0 < r.count
-        → Answered (start_with (record { 0 = get_or es i 0 }) r)
-    answer_event a b r e some =
-        let f = route_found g carried from to (get_or es i 0) r e some in
-        let inside : i < length (events c ts) = by (side i (length (events c ts))) in
-        ap (start_with (record { 0 = get_or es i 0 })) f.2
-        ∙ ap (λ m. chosen (granted (record { start = m; path = f.0 }))) (place i)
-        ∙ sym (ap chosen (earliest_event try c ts back low latest early i (record { start = get_or (events c ts) i 0; path = f.0 }) (tried_events i tried) inside (rw (place i) at a) (rw (place i) at b) (subst (λ m. try m ≡ granted (record { start = m; path = f.0 })) (place i) (ap (grant_at (get_or es i 0)) f.1))))
-      where
-        by : Side i (length (events c ts)) → i < length (events c ts)
-        by (below h) = h
-        by (above h) = absurd (omega (arith, place i, get_or-eq_default (events c ts) 0 h, a))
+  module _ (low latest : ℕ) (early : clock ≤ low) where
+    abbrev Answered : Chosen → Type 0
+    Answered r = r ≡ chosen (choice_of a low latest)
 
-    -- no start, where the next event is too late or none is left
-    pub answer_late : latest < get_or es i 0 → Answered refusal
-    answer_late h = sym (ap chosen (earliest_too_late try c ts back low latest early i (tried_events i tried) (rw (place i) at h)))
+    back : (k m : ℕ) → k ≤ m → NoneBetween times k m → possible_of a m ≡ true → possible_of a k ≡ true
+    back = possible_back g carries_it from to times carried_back
 
-    pub answer_left : length es ≤ i → Answered refusal
-    answer_left h =
-        let long : length (events c ts) ≤ i = omega (arith, simp (length-append) at (ap length shown)) in
-        let all = tried_events i tried in
-        sym (ap chosen (earliest_none_left try c ts back low latest early (record { not_low = all.not_low; not_events = λ j a. all.not_events j (omega arith) })))
+    place : (i : ℕ) → get_or es i 0 ≡ get_or (events clock times) i 0
+    place = event_at clock times es a.table.figures.now a.are_events a.search.now.bandwidth.0 a.search.now.span.0
+
+    tried_events : (i : ℕ) → Tried (possible_of a) es low latest i → Tried (possible_of a) (events clock times) low latest i
+    tried_events i h = record { not_low = h.not_low; not_events = λ j b c d. rw (place j) at (h.not_events j b (rw (place j) c) (rw (place j) d)) }
+
+    -- a window that ends before it begins has no start
+    pub answer_empty : latest < low → Answered refusal
+    answer_empty h = sym (ap chosen (earliest_none try_of low latest (λ m b c. absurd (omega arith))))
+
+    -- low, where it has a path
+    pub answer_low : low ≤ latest → (r : Option Path) → r ≡ found_path (route_of a low) → (p : Path) → r ≡ Some p → Answered (start_with (record { 0 = low }) p)
+    answer_low h r e p some =
+        let f = route_found g carries_it from to low r e p some in
+        ap (start_with (record { 0 = low })) f.2 ∙ sym (ap chosen (earliest_low try_of clock times back low latest early (record { start = low; path = f.0 }) h (ap (grant_at low) f.1)))
+
+    module _ (i : ℕ) (tried : Tried (possible_of a) es low latest i) where
+      -- the next event, where it lies in the window and has a path
+      pub answer_event : low < get_or es i 0 → get_or es i 0 ≤ latest → (r : Option Path) → r ≡ found_path (route_of a (get_or es i 0)) → (p : Path) → r ≡ Some p
+          → Answered (start_with (record { 0 = get_or es i 0 }) p)
+      answer_event b c r e p some =
+          let f = route_found g carries_it from to (get_or es i 0) r e p some in
+          let inside : i < length (events clock times) = by (side i (length (events clock times))) in
+          ap (start_with (record { 0 = get_or es i 0 })) f.2
+          ∙ ap (λ m. chosen (granted (record { start = m; path = f.0 }))) (place i)
+          ∙ sym (ap chosen (earliest_event try_of clock times back low latest early i (record { start = get_or (events clock times) i 0; path = f.0 }) (tried_events i tried) inside (rw (place i) at b) (rw (place i) at c) (subst (λ m. try_of m ≡ granted (record { start = m; path = f.0 })) (place i) (ap (grant_at (get_or es i 0)) f.1))))
+        where
+          by : Side i (length (events clock times)) → i < length (events clock times)
+          by (below h) = h
+          by (above h) = absurd (omega (arith, place i, get_or-eq_default (events clock times) 0 h, b))
+
+      -- no start, where the next event is too late or none is left
+      pub answer_late : latest < get_or es i 0 → Answered refusal
+      answer_late h = sym (ap chosen (earliest_too_late try_of clock times back low latest early i (tried_events i tried) (rw (place i) at h)))
+
+      pub answer_left : length es ≤ i → Answered refusal
+      answer_left h =
+          let long : length (events clock times) ≤ i = omega (arith, simp (length-append) at (ap length a.are_events)) in
+          let all = tried_events i tried in
+          sym (ap chosen (earliest_none_left try_of clock times back low latest early (record { not_low = all.not_low; not_events = λ j b. all.not_events j (omega arith) })))

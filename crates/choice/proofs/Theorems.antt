@@ -16,18 +16,18 @@ use Rattle.timeline.specs.Events.{events}
 use Rattle.timeline.proofs.Steady.{ChangesAt}
 use Rattle.timeline.proofs.Spans.{span_back, last_start, last_start_le, last_start_between, last_start_is}
 use Rattle.free_table.specs.Figures.{kept}
-use Rattle.choice.specs.declared.Search.{Search}
+use Rattle.choice.specs.declared.search.Search.{Search}
 use Rattle.path_search.specs.declared.Path.{Path}
 use Rattle.path_search.specs.Paths.{Graph}
 use Rattle.path_search.specs.Answer.{graph, path_of}
 use Rattle.path_search.proofs.Chains.{Way}
 use Rattle.path_search.proofs.Loops.{NodesBelow}
 use Rattle.path_search.proofs.Paths.{chain_leads}
-use Rattle.path_search.proofs.Answers.{nodes_below}
+use Rattle.path_search.proofs.InRange.{nodes_below}
 use Rattle.choice.specs.declared.Chosen.{Chosen}
 use Rattle.choice.specs.Choice.{Grant, Choice, granted, route_at, try_at, possible, choose}
 use Rattle.choice.specs.Carrying.{suffices, carries}
-use Rattle.choice.specs.Answer.{choice_for, Askable, start_with, refusal, chosen}
+use Rattle.choice.specs.Answer.{wanted, choice_for, start_with, refusal, chosen}
 use Rattle.choice.specs.Right.{NowhereLower, FreeThroughout, CarriedBy, Best, NonePossible, Right, best, none_possible}
 use Rattle.choice.proofs.Choice.{granted≢no_start, IsGrant, is_grant_only, ChoiceView, grants, grants_none, choose_view}
 use Rattle.choice.proofs.Starts.{ChoiceFound, found, none_found, choice_found}
@@ -201,8 +201,8 @@ module _ (g : Graph) (before after : ℕ → ℕ → ℕ) (more : NowhereLower b
           (d, r, elim (dec_lt m n) [ yes k ↦ clash (stays_possible m f.passes) (i.before m f.low k) | no k ↦ omega (arith, at_m, at_n, ap (λ (x : Grant). x.start) same) ])
 
 -- What `choose` promises is right, by the figures that the lent tables keep.
-pub promise_right : (s : Search) (es t : List ℕ) (low latest : ℕ) → Askable s es t low latest → s.source ≢ s.destination → s.source ≤ last_node
-    → (r : Chosen) → r ≡ chosen (choice_for s es t low latest) → Right (graph s.ends) (kept es t) s.bandwidth.0 s.span.0 s.source s.destination low latest r
-promise_right s es t low latest a apart node r e =
+pub promise_right : (s : Search) (es t : List ℕ) (low latest : ℕ) → s.source ≢ s.destination → s.source ≤ last_node
+    → (r : Chosen) → r ≡ chosen (choice_for (wanted s) es t low latest) → Right (graph s.ends) (kept es t) s.bandwidth.0 s.span.0 s.source s.destination low latest r
+promise_right s es t low latest apart node r e =
     subst (Right (graph s.ends) (kept es t) s.bandwidth.0 s.span.0 s.source s.destination low latest) (sym e)
-    (choose_right (graph s.ends) (kept es t) s.bandwidth.0 s.span.0 s.source s.destination low latest apart (nodes_below s.ends a.in_range) node)
+    (choose_right (graph s.ends) (kept es t) s.bandwidth.0 s.span.0 s.source s.destination low latest apart (nodes_below s.ends) node)

@@ -1,56 +1,73 @@
 -- What the chooser is given and what it answers: the lent tables read as figures, and this paper's values of a choice.
-use Rattle.std.specs.Prelude.{◌≡◌, List, [], Bool, ℕ, ◌≤◌, length}
+use Rattle.std.specs.Prelude.{List, [], Bool, Result, Ok, Err, ℕ, ◌≤◌}
 use Rattle.units.specs.declared.Minute.{Minute}
+use Rattle.units.specs.declared.Refusal.{Refusal}
+use Rattle.units.specs.declared.Refusal.TheVariants.{NoStart}
 use Rattle.units.specs.Limits.{last_shown}
-use Rattle.units.specs.Lists.{padded}
-use Rattle.units.specs.Refusals as refusals
+use Rattle.units.specs.Refusals.{number}
 use Rattle.units.specs.Spans.{release}
-use Rattle.timeline.specs.Events.{events}
 use Rattle.free_table.specs.Figures.{kept}
-use Rattle.free_table.specs.Looking.{TablesSized}
-use Rattle.path_search.specs.Paths.{Route}
+use Rattle.path_search.specs.Paths.{Graph, Route}
 use Rattle.path_search.specs.declared.Path.{Path}
-use Rattle.path_search.specs.Answer.{InRange, graph, path_of}
+use Rattle.path_search.specs.Answer.{graph, path_of}
 use Rattle.choice.specs.Carrying.{carries}
-use Rattle.choice.specs.declared.StartChoice.{StartChoice}
-use Rattle.choice.specs.declared.StartChoice.TheVariants.{Start, Refused}
+use Rattle.choice.specs.EventTables.{clock_of}
 use Rattle.choice.specs.declared.Chosen.{Chosen}
 use Rattle.choice.specs.declared.ChoiceRecord.{ChoiceRecord}
-use Rattle.choice.specs.declared.Search.{Search}
+use Rattle.choice.specs.declared.search.Search.{Search}
+use Rattle.choice.specs.declared.asked.Asked.{Asked}
 use Rattle.choice.specs.Choice.{Grant, Choice, granted, no_start, route_at, possible, choose}
 
--- a search on lent tables: what links carry, the route of a start, whether it is possible, and the choice of low to latest
-module _ (s : Search) (es t : List ℕ) where
+-- what is asked of any start: the links as a graph, where from and to, how much, and for how many minutes
+pub record Wanted : Type 0 where
+  pub links : Graph
+  pub source : ℕ
+  pub destination : ℕ
+  pub bandwidth : ℕ
+  pub span : ℕ
+
+abbrev pub wanted : Search → Wanted
+wanted s = record { links = graph s.ends; source = s.source; destination = s.destination; bandwidth = s.bandwidth.0; span = s.span.0 }
+
+-- asked on lent tables: what links carry, the route of a start, whether it is possible, and the choice of low to latest
+module _ (w : Wanted) (es t : List ℕ) where
   abbrev pub carried : ℕ → ℕ → Bool
-  carried = carries (kept es t) s.bandwidth.0 s.span.0
+  carried = carries (kept es t) w.bandwidth w.span
 
   abbrev pub route_for : ℕ → Route
-  route_for = route_at (graph s.ends) carried s.source s.destination
+  route_for = route_at w.links carried w.source w.destination
 
   abbrev pub possible_for : ℕ → Bool
-  possible_for = possible (graph s.ends) carried s.source s.destination
+  possible_for = possible w.links carried w.source w.destination
 
   abbrev pub choice_for : ℕ → ℕ → Choice Grant
-  choice_for = choose (graph s.ends) carried s.source s.destination
+  choice_for = choose w.links carried w.source w.destination
 
--- what may be asked: document 01's links, events whose clock is not after low, and a span that ends in time
-pub record Askable (s : Search) (es t : List ℕ) (low latest : ℕ) : Type 0 where
-  pub in_range : InRange s.ends
-  pub sized : TablesSized es t
-  pub clock : ℕ
-  pub times : List ℕ
-  pub are_events : es ≡ padded (length es) (events clock times)
-  pub not_past : clock ≤ low
-  pub lasts : 1 ≤ s.span.0
-  pub in_time : release latest s.span.0 ≤ last_shown
+-- the same of a search beside its tables
+abbrev pub route_of : Asked → ℕ → Route
+route_of a = route_for (wanted a.search.now) a.table.events.now a.table.figures.now
+
+abbrev pub possible_of : Asked → ℕ → Bool
+possible_of a = possible_for (wanted a.search.now) a.table.events.now a.table.figures.now
+
+abbrev pub choice_of : Asked → ℕ → ℕ → Choice Grant
+choice_of a = choice_for (wanted a.search.now) a.table.events.now a.table.figures.now
+
+-- of which windows it may be asked: the clock is not after low, and the last span ends in time
+pub record Askable (es : List ℕ) (span low latest : ℕ) : Type 0 where
+  pub not_past : clock_of es ≤ low
+  pub in_time : release latest span ≤ last_shown
+
+abbrev pub AskableOf : Asked → ℕ → ℕ → Type 0
+AskableOf a = Askable a.table.events.now a.search.now.span.0
 
 -- document 01's 'start with its path', as it is answered
 abbrev pub start_with : Minute → Path → Chosen
-start_with start path = record { choice = Start start; path = path }
+start_with start path = record { choice = Ok start; path = path }
 
 -- document 01's 'one refusal number', as it is answered: the path is zero
 abbrev pub refusal : Chosen
-refusal = record { choice = Refused refusals.no_start; path = path_of [] }
+refusal = record { choice = Err NoStart; path = path_of [] }
 
 -- a choice as it is answered
 abbrev pub chosen : Choice Grant → Chosen
@@ -58,9 +75,9 @@ chosen (granted g) = start_with (record { 0 = g.start }) (path_of g.path)
 chosen no_start = refusal
 
 -- document 01's number and values for each case of a choice; 0 is the number of a start
-abbrev pub values_of : StartChoice → Path → ChoiceRecord
-values_of (Start start) path = record { refusal = 0; start = start; path = path }
-values_of (Refused number) path = record { refusal = number; start = record { 0 = 0 }; path = path }
+abbrev pub values_of : Result Minute Refusal → Path → ChoiceRecord
+values_of (Ok start) path = record { refusal = 0; start = start; path = path }
+values_of (Err refused) path = record { refusal = number refused; start = record { 0 = 0 }; path = path }
 
 -- and of an answer: 'on refusal start and path are zero'
 abbrev pub values : Chosen → ChoiceRecord

@@ -1,23 +1,36 @@
-// The choice of a start for C: the exported function of `choice` under its own name, with the clauses that it has there.
+// The choice of a start for C: `choose` of `choice` on lent tables, its answer as a record.
 #![tactic(auto)]
 
 ghost use Rattle.std.specs.Prelude.{◌≡◌};
-ghost use Rattle.choice.specs.Answer.{choice_for, Askable, chosen, values};
+ghost use Rattle.free_table.specs.Looking.{TablesSized};
+ghost use Rattle.choice.specs.EventTables.{AreEvents};
+ghost use Rattle.choice.specs.Answer.{wanted, choice_for, Askable, chosen, values};
 
-use choice::{ChoiceRecord, Search};
+use choice::{Asked, ChoiceRecord, Search};
+use free_table::FreeTable;
 use units::Minute;
 
 // The earliest start of low to latest at which there is a path, with that path; refusal 8 where there is none.
 #[unsafe(no_mangle)]
-pub extern "C" fn choose_start(
+pub extern "C" fn choose_start<'a>(
     search: Search,
-    events: &[u32],
-    free: &[u32],
+    events: &'a [u32],
+    free: &'a [u32],
     low: Minute,
     latest: Minute,
 ) -> ChoiceRecord
-    requires { Askable search events.now free.now low.0 latest.0 }
-    ensures { result ≡ values (chosen (choice_for search events.now free.now low.0 latest.0)) }
+    requires sized { TablesSized events.now free.now }
+    requires are_events { AreEvents events.now }
+    requires askable { Askable events.now search.span.0 low.0 latest.0 }
+    ensures { result ≡ values (chosen (choice_for (wanted search) events.now free.now low.0 latest.0)) }
 {
-    choice::choose_start(search, events, free, low, latest)
+    let table = FreeTable {
+        events,
+        figures: free,
+    };
+    let asked = Asked {
+        search: &search,
+        table,
+    };
+    ChoiceRecord::from(asked.choose(low, latest))
 }

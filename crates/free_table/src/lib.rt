@@ -5,7 +5,7 @@
 ghost use Rattle.std.specs.Prelude.{◌≡◌, ◌*◌, ◌/◌, ◌≤◌, ◌<◌, length, take};
 ghost use Rattle.units.specs.Limits.{most_links};
 ghost use Rattle.timeline.specs.Events.{row_at};
-ghost use Rattle.free_table.specs.Figures.{all_free, Capacities};
+ghost use Rattle.free_table.specs.Figures.{all_free};
 ghost use Rattle.free_table.specs.Taking.{less_rows, less_span, Sized};
 
 mod view;
@@ -15,12 +15,12 @@ use units::{Bandwidth, LinkNumber, Minute, ROW};
 pub use view::FreeTable;
 
 // The free table of a desk without bookings: the capacities of its links at the one event, the clock.
-pub fn reset_free(free: &mut [u32], capacities: &[u32], links: usize)
-    requires { Capacities free.old capacities.now links }
-    ensures { free.new ≡ all_free (length free.old) links capacities.now }
+pub fn reset_free(free: &mut [u32], capacities: &[u32])
+    requires { length capacities.now ≤ length free.old }
+    ensures { free.new ≡ all_free (length free.old) (length capacities.now) capacities.now }
 {
     free.fill(0);
-    free[..links].copy_from_slice(&capacities[..links]);
+    free[..capacities.len()].copy_from_slice(capacities);
 }
 
 // Takes bandwidth from one link in every row of the part. The part starts at the row of the start, so nothing before it

@@ -12,12 +12,13 @@ use free_table::FreeTable;
 use units::{Bandwidth, LinkNumber, Minute};
 
 // The free table of a desk without bookings.
+#[tactic(auto, using(free_table::proofs::Tables::all_free_part))]
 #[unsafe(no_mangle)]
 pub extern "C" fn reset_free(free: &mut [u32], capacities: &[u32], links: usize)
     requires { Capacities free.old capacities.now links }
     ensures { free.new ≡ all_free (length free.old) links capacities.now }
 {
-    free_table::reset_free(free, capacities, links)
+    free_table::reset_free(free, &capacities[..links])
 }
 
 // The bandwidth that a link has free in a minute.

@@ -1,5 +1,4 @@
 -- Laws of the definitions of `specs/`.
-pub mod Fields
 pub mod Packing
 pub mod Library
 pub mod Written

@@ -7,6 +7,7 @@ use native.Mathlib.Omega.{arith}
 use lib.ListN.{length, take, get_or, replicate, length-append}
 use lib.Seq.{take-suc, take_all}
 use lib.Pow.{pow-add}
+use Rattle.std.specs.Array.{IsWholeChunk}
 use Rattle.std.specs.Int.{byte_at, byte_worth, bytes_high_first, sum_through}
 use Rattle.units.specs.Lists.{sum}
 use Rattle.layout.specs.Layout.{big_endian, cut, spelled}
@@ -40,10 +41,14 @@ through s m (suc j) h l =
     joined : (a b n : ℕ) → a * 256 ^ suc n + b * 256 ^ n ≡ (a * 256 + b) * 256 ^ n
     joined a b n = rw (pow-suc 256 n, mul_comm (256 ^ n) 256, add-mul, mul_assoc)
 
-pub number_is : (s : List ℕ) (m : ℕ) → length s ≡ suc m → sum_through (λ i. byte_worth (m - i) (get_or s i 0)) m ≡ big_endian s
+number_is : (s : List ℕ) (m : ℕ) → length s ≡ suc m → sum_through (λ i. byte_worth (m - i) (get_or s i 0)) m ≡ big_endian s
 number_is s m e =
     let z : m - m ≡ 0 = omega arith in
     through s m m (omega arith) (omega arith) ∙ rw (z, mul-one) (ap big_endian (take_all (suc m) s (omega arith)))
+
+-- the same of bytes that are one piece
+pub piece_number : {bytes piece : List ℕ} (m : ℕ) → IsWholeChunk bytes piece (suc m) → sum_through (λ i. byte_worth (m - i) (get_or piece i 0)) m ≡ big_endian bytes
+piece_number {bytes} {piece} m whole = number_is piece m (ap length whole.same ∙ whole.long) ∙ ap big_endian whole.same
 
 byte_is : (k n : ℕ) → byte_at k n ≡ n / 2 ^ sum (replicate k 8) % 2 ^ 8
 unfolding sum

@@ -1,19 +1,25 @@
 -- The law of fields, of any widths, in both directions: cutting gives back the fields that were packed, and packing the number that was
 -- cut. Bytes are fields too, of 8 bits each, so that it serves the records and the bytes alike.
 use mathlib.Core.Path.{◌≡◌, refl, sym, ◌∙◌, ap, ap₂}
-use mathlib.Core.List.{List, [], ◌∷◌, ◌++◌}
+use mathlib.Core.List.{List, [], ◌∷◌}
 use mathlib.Core.Bool.{true, and-eq-true_iff}
 use Prim.Native.Nat.{ℕ, zero, suc, ◌+◌, ◌*◌, ◌/◌, ◌%◌, ◌^◌, ◌<◌}
-use native.Mathlib.Nat.{add_assoc, add_comm, zero-add, zero-mul, add-mul, mul_assoc, mod-one, mod-eq_of_lt, mod-lt, pow-suc, mul_comm}
+use native.Mathlib.Nat.{mod-one, mod-eq_of_lt, mod-lt, pow-suc, mul_comm}
 use native.Mathlib.Omega.{arith}
 use lib.Arith.{digits_lt}
 use lib.Dec.{ltb}
 use lib.ListN.{length, replicate, length-replicate}
-use lib.Pow.{pow-add, pow_pos, high, mod-pow-add}
+use lib.Pow.{pow-add, pow_pos, high, low, field, mod-mod-pow, mod-pow-add}
 use borrow.Author.Tests.{ltb-true, lt-ltb}
 use Rattle.units.specs.Lists.{sum, All}
 use Rattle.layout.specs.Layout.{big_endian, cut, pack, fits, spelled}
-use Rattle.layout.proofs.Fields.{upper, lower}
+
+-- a field of the lower part of a number, from that part alone
+lower : (hi lo j w k : ℕ) → lo < 2 ^ (j + (w + k)) → (hi * 2 ^ (j + (w + k)) + lo) / 2 ^ k % 2 ^ w ≡ lo / 2 ^ k % 2 ^ w
+lower hi lo j w k h =
+    sym (field (hi * 2 ^ (j + (w + k)) + lo) w k)
+    ∙ ap (λ x. x / 2 ^ k) (sym (mod-mod-pow (hi * 2 ^ (j + (w + k)) + lo) j (w + k)) ∙ ap (λ x. x % 2 ^ (w + k)) (low hi (j + (w + k)) h))
+    ∙ field lo w k
 
 -- of fields that fit, the first and those behind it
 pub first_fits : (w : ℕ) (ws : List ℕ) (f : ℕ) (fs : List ℕ) → fits (w ∷ ws) (f ∷ fs) ≡ true → (f < 2 ^ w) × (fits ws fs ≡ true)
@@ -62,25 +68,6 @@ pub cut_fits : (ws : List ℕ) (n : ℕ) → fits ws (cut ws n) ≡ true
 unfolding cut fits
 cut_fits [] n = refl
 cut_fits (w ∷ ws) n = rw (lt-ltb (n / 2 ^ sum ws % 2 ^ w) (2 ^ w) (mod-lt (n / 2 ^ sum ws) (pow_pos w))) (cut_fits ws n)
-
-sum_parts : (vs ws : List ℕ) → sum (vs ++ ws) ≡ sum ws + sum vs
-unfolding sum
-sum_parts [] ws = omega arith
-sum_parts (v ∷ vs) ws = let e = sum_parts vs ws in omega arith
-
--- the fields of a number of two parts are those of the parts
-pub cut_parts : (vs ws : List ℕ) (hi lo : ℕ) → lo < 2 ^ sum ws → cut (vs ++ ws) (hi * 2 ^ sum ws + lo) ≡ cut vs hi ++ cut ws lo
-unfolding cut sum
-cut_parts [] ws hi lo h = above ws 0 (sum ws) hi lo (omega arith) h
-cut_parts (v ∷ vs) ws hi lo h = ap₂ (λ (x : ℕ) (xs : List ℕ). x ∷ xs) (rw (sum_parts vs ws) (upper hi lo (sum ws) (sum vs) v h)) (cut_parts vs ws hi lo h)
-
-pub pack_parts : (vs ws fs gs : List ℕ) → length fs ≡ length vs → pack (vs ++ ws) (fs ++ gs) ≡ pack vs fs * 2 ^ sum ws + pack ws gs
-unfolding pack sum
-pack_parts [] ws [] gs l = sym (rw (zero-mul, zero-add))
-pack_parts [] ws (f ∷ fs) gs l = absurd (omega arith)
-pack_parts (v ∷ vs) ws [] gs l = absurd (omega arith)
-pack_parts (v ∷ vs) ws (f ∷ fs) gs l =
-    rw (sum_parts vs ws, add_comm (sum ws) (sum vs), pow-add 2 (sum vs) (sum ws), pack_parts vs ws fs gs (omega arith)) (simp (add-mul, mul_assoc, add_assoc))
 
 -- the bytes of a number are fields of 8 bits
 pub byte_powers : (n : ℕ) → 256 ^ n ≡ 2 ^ sum (replicate n 8)

@@ -104,7 +104,7 @@ wrong_bits f refusal e = by (decided f)
   where
     by : Judged f (order_from f) → refusal ≡ BadBits
     by (inl g) = absurd (true≢false (sym g.2 ∙ ap (λ r. is_ok r) e))
-    by (inr w) = let q = sym e ∙ w.1 in cc
+    by (inr w) = let z = w.1 in cc
 
 -- an order of the right length, and one of a wrong length
 pub sized : (bytes : List ℕ) → length bytes ≡ 16 → order_read bytes ≡ order_from (fields_of bytes)

@@ -111,7 +111,7 @@ read_form f o e = by (decided f)
         let q : order_form o ≡ lent (as_bits f) = ap lent (sym (ap order_values e) ∙ g.1) in
         let l = lent_latest (latest_of f.latest) in
         (ap form_fields q ∙ rw (l, t.1), ap (λ (x : OrderForm). tellable x.wish.latest) q ∙ rw l t.0)
-    by (inr j) = absurd (true≢false (ap (λ r. is_ok r) (sym e ∙ j.1)))
+    by (inr j) = let z = j.1 in cc
 
 -- only sixteen bytes are read as an order
 read_sized : (bytes : List ℕ) (o : Order) → order_read bytes ≡ Ok o → length bytes ≡ 16
@@ -119,7 +119,7 @@ read_sized bytes o e = by (eqb (length bytes) 16) refl
   where
     by : (t : Bool) → eqb (length bytes) 16 ≡ t → length bytes ≡ 16
     by true q = eqb-true (length bytes) 16 q
-    by false q = absurd (true≢false (ap (λ r. is_ok r) (sym e ∙ missized bytes (eqb-false (length bytes) 16 q))))
+    by false q = let z = missized bytes (eqb-false (length bytes) 16 q) in cc
 
 -- write after an accepted read gives the same bytes
 pub write_after_read : (piece bytes : List ℕ) (o : Order)
@@ -164,7 +164,7 @@ read_figures f l e = by (eqb f.zero 0) refl
   where
     by : (t : Bool) → eqb f.zero 0 ≡ t → link_figures l ≡ f.from ∷ f.to ∷ f.capacity ∷ f.zero ∷ []
     by true q = sym (ap (λ r. link_figures (link_values r).link) (rw q at e)) ∙ ap (λ z. f.from ∷ f.to ∷ f.capacity ∷ z ∷ []) (sym (eqb-true f.zero 0 q))
-    by false q = let z : ◌≡◌ {A = ℕ} 11 0 = ap (λ r. (link_values r).refusal) (rw q at e) in absurd (omega arith)
+    by false q = let z = rw q at e in cc
 
 -- only eight bytes are read as a link
 link_sized : (bytes : List ℕ) (l : Link) → link_read bytes ≡ Ok l → (length bytes ≡ 8) × (link_from (link_fields (cut link_widths (big_endian bytes))) ≡ Ok l)
@@ -173,7 +173,7 @@ link_sized bytes l e = by (eqb (length bytes) 8) refl
   where
     by : (t : Bool) → eqb (length bytes) 8 ≡ t → (length bytes ≡ 8) × (link_from (link_fields (cut link_widths (big_endian bytes))) ≡ Ok l)
     by true q = (eqb-true (length bytes) 8 q, rw q at e)
-    by false q = let z : ◌≡◌ {A = ℕ} 12 0 = ap (λ r. (link_values r).refusal) (rw q at e) in absurd (omega arith)
+    by false q = let z = rw q at e in cc
 
 pub link_write_after_read : (piece bytes : List ℕ) (l : Link)
     → Bytes bytes

@@ -8,31 +8,49 @@ use native.Mathlib.Decide.{dec_lt}
 use native.Mathlib.Omega.{arith}
 use lib.ListN.{length, set, take, replicate, length-append, length-set}
 use lib.Seq.{take-suc-set}
+use Rattle.std.proofs.Common.{Option, Some, None}
+use Rattle.std.specs.Result.{result_ok}
 use Rattle.units.specs.declared.Minute.{Minute}
 use Rattle.units.specs.Limits.{most_ranges, list_size}
 use Rattle.timeline.specs.Events.{events}
-use Rattle.timeline.proofs.Steady.{NoneBetween}
 use Rattle.path_search.specs.Paths.{Graph}
-use Rattle.choice.specs.declared.StartChoice.TheVariants.{Start, Refused}
-use Rattle.choice.specs.declared.Chosen.{Chosen}
-use Rattle.choice.specs.Choice.{Grant, Choice, route_at, try_at, possible, choose}
-use Rattle.choice.specs.Answer.{chosen}
-use Rattle.choice.proofs.Answers.{started, none_started}
+use Rattle.path_search.specs.Answer.{graph}
+use Rattle.choice.specs.Choice.{Grant, Choice, granted, no_start, route_at, try_at, possible, choose}
+use Rattle.choice.specs.declared.asked.Asked.{Asked}
+use Rattle.choice.specs.Answer.{wanted, carried, route_of, possible_of, choice_of, chosen}
 use Rattle.choice.proofs.Starts.{ChoiceFound, found, none_found, choice_found}
 use Rattle.choice.proofs.Possible.{grant_starts}
-use Rattle.listing.specs.Ranges.{Range, ranges_from, ranges, figures, list_table, start_or}
+use Rattle.choice.proofs.Exits.{clock, times, carried_back, try_of}
+use Rattle.listing.specs.Ranges.{Range, ranges_from, ranges, figures, list_table, start_of}
 use Rattle.listing.specs.Right.{RunEnd}
 use Rattle.listing.proofs.Laws.{IsRange, AreRanges, fails_first, are_ranges, are_only}
 use Rattle.listing.proofs.Theorems.{ranges_are, ranges_fit}
 
 -- ---- the start of a choice, or the minute after the window
 
-module _ (c : Choice Grant) (a : Chosen) (e : a ≡ chosen c) (after : ℕ) where
-  pub start_is : (m : Minute) → a.choice ≡ Start m → m.0 ≡ start_or after c
-  start_is m s = let w = started c a e m s in ap (λ (x : Minute). x.0) w.start_is ∙ sym (ap (start_or after) w.is_granted)
+abbrev pub minute_or : ℕ → Option Minute → ℕ
+minute_or after (Some m) = m.0
+minute_or after None = after
 
-  pub refused_is : (k : ℕ) → a.choice ≡ Refused k → after ≡ start_or after c
-  refused_is k s = sym (ap (start_or after) (none_started c a e k s))
+abbrev pub start_or : ℕ → Choice Grant → ℕ
+start_or after c = minute_or after (start_of c)
+
+-- what is answered tells it
+pub start_answered : (c : Choice Grant) → result_ok (chosen c).choice ≡ start_of c
+start_answered (granted g) = refl
+start_answered no_start = refl
+
+-- it lies in the window and is possible
+pub start_found : (asked : Asked) (low latest : ℕ) (m : Minute) → start_of (choice_of asked low latest) ≡ Some m → (low ≤ m.0) × (m.0 ≤ latest) × (possible_of asked m.0 ≡ true)
+start_found asked low latest m e = by (choice_found (try_of asked) low latest)
+  where
+    by : ChoiceFound (try_of asked) low latest → (low ≤ m.0) × (m.0 ≤ latest) × (possible_of asked m.0 ≡ true)
+    by (found first c f t p) =
+        let same : ◌≡◌ {A = Option Minute} (Some (record { 0 = c.start })) (Some m) = sym (ap start_of p) ∙ e in
+        let is : record { 0 = c.start } ≡ m = cc in
+        let at_first : m.0 ≡ first = sym (ap (λ (x : Minute). x.0) is) ∙ grant_starts first (route_of asked first) t in
+        (omega (arith, f.low), omega (arith, f.high), rw at_first f.passes)
+    by (none_found f p) = let same : ◌≡◌ {A = Option Minute} None (Some m) = sym (ap start_of p) ∙ e in absurd (let z : ◌≡◌ {A = ℕ} 0 1 = cc in omega arith)
 
 -- s is the first minute from e on that passes, or the end of the window
 pub record NextStart (test : ℕ → Bool) (e end s : ℕ) : Type 0 where
@@ -144,9 +162,21 @@ pub record Listed (test : ℕ → Bool) (latest from_start : ℕ) (list : List �
   pub written : take (count * 2) list ≡ figures before
   pub found_to : FoundTo test from_start (suc latest) before start
 
-module _ (g : Graph) (carries : ℕ → ℕ → Bool) (from to low latest first : ℕ) (is_first : first ≡ start_or (suc latest) (choose g carries from to low latest)) where
+module _ (asked : Asked) (low latest first : ℕ) (is_first : first ≡ start_or (suc latest) (choice_of asked low latest)) where
+  abbrev g : Graph
+  g = graph asked.search.now.ends
+
+  abbrev carries : ℕ → ℕ → Bool
+  carries = carried (wanted asked.search.now) asked.table.events.now asked.table.figures.now
+
+  abbrev from : ℕ
+  from = asked.search.now.source
+
+  abbrev to : ℕ
+  to = asked.search.now.destination
+
   abbrev test : ℕ → Bool
-  test = possible g carries from to
+  test = possible_of asked
 
   abbrev ListedTo : List ℕ → ℕ → ℕ → Type 0
   ListedTo = Listed test latest first
@@ -173,23 +203,17 @@ module _ (g : Graph) (carries : ℕ → ℕ → Bool) (from to low latest first 
   }
 
   module _ (list : List ℕ) (count start : ℕ) (l : ListedTo list count start) where
-    pub start_passes : start ≤ latest → test start ≡ true
-    start_passes h = l.found_to.passes (omega arith)
-
-    pub start_after : start ≤ latest → low ≤ start
-    start_after h = let n = l.found_to.not_before in let k = (in_window.1 (omega arith)).0 in omega arith
-
     module _ (inside : start ≤ latest) (e : ℕ) (r : RunEnd test start (suc latest) e) where
-      -- there is room for one more; c is the clock, ts the times at which `carries` may change
-      pub listed_few : (c : ℕ) (ts : List ℕ) → ((k m l : ℕ) → k ≤ m → NoneBetween ts k m → carries m l ≡ true → carries k l ≡ true) → c ≤ low → length (events c ts) ≤ most_ranges
-          → count < most_ranges
-      listed_few c ts back early few =
+      -- there is room for one more
+      pub listed_few : clock asked ≤ low → length asked.table.events.now ≤ most_ranges → count < most_ranges
+      listed_few early fits =
+          let few : length (events (clock asked) (times asked)) ≤ most_ranges = omega (arith, simp (length-append) at (ap length asked.are_events)) in
           let n = l.found_to.not_before in
           let k = (in_window.1 (omega arith)).0 in
           let meets : first + (suc latest - first) ≡ suc latest = omega arith in
           let all = subst (λ x. AreRanges test first x (ranges g carries from to first latest)) meets (ranges_are g carries from to first latest) in
           let some = found_few test first (suc latest) l.before start e l.found_to (omega arith) r (ranges g carries from to first latest) all in
-          omega (arith, l.counted, ranges_fit g carries from to first latest c ts back (omega arith))
+          omega (arith, l.counted, ranges_fit g carries from to first latest (clock asked) (times asked) (carried_back asked) (omega arith))
 
       pub listed_next : (s : ℕ) → NextStart test e (suc latest) s → count < most_ranges → ListedTo (set (set list (count * 2) start) (count * 2 + 1) (e - 1)) (count + 1) s
       listed_next s n room =
@@ -209,13 +233,13 @@ module _ (g : Graph) (carries : ℕ → ℕ → Bool) (from to low latest first 
     -- behind the window they are all the ranges there are
     module _ (outside : latest < start) where
       before_all : l.before ≡ ranges g carries from to low latest
-      before_all = elim (dec_lt (suc latest) low) [ yes h ↦ nothing_asked h | no h ↦ asked h ]
+      before_all = elim (dec_lt (suc latest) low) [ yes h ↦ nothing_asked h | no h ↦ some_asked h ]
         where
           are : AreRanges test first (suc latest) l.before
           are = subst (AreRanges test first (suc latest)) (append-nil l.before) (l.found_to.go_on [] (λ m a b. absurd (omega arith)))
 
-          asked : ¬ (suc latest < low) → l.before ≡ ranges g carries from to low latest
-          asked h =
+          some_asked : ¬ (suc latest < low) → l.before ≡ ranges g carries from to low latest
+          some_asked h =
               let meets : low + (suc latest - low) ≡ suc latest = omega arith in
               let n = next_start g carries from to low latest first (omega arith) is_first in
               are_only test low (suc latest) l.before (ranges g carries from to low latest) (fails_first test low first (suc latest) n.not_before n.fails_before l.before are)

@@ -1,12 +1,12 @@
 -- Every start there is: the ranges of the possible minutes of a window, tried at every minute. It knows nothing of bookings.
-use Rattle.std.specs.Prelude.{List, [], ◌∷◌, Bool, true, false, ℕ, zero, suc, ◌-◌, eqb}
+use Rattle.std.specs.Prelude.{List, [], ◌∷◌, Bool, true, false, Option, Some, None, ℕ, zero, suc, ◌-◌, eqb}
+use Rattle.units.specs.declared.Minute.{Minute}
 use Rattle.units.specs.Limits.{list_size}
 use Rattle.units.specs.Lists.{padded}
 use Rattle.path_search.specs.Paths.{Graph}
-use Rattle.path_search.specs.Answer.{graph}
-use Rattle.choice.specs.declared.Search.{Search}
+use Rattle.choice.specs.declared.asked.Asked.{Asked}
 use Rattle.choice.specs.Choice.{Grant, Choice, granted, no_start, possible}
-use Rattle.choice.specs.Answer.{carried}
+use Rattle.choice.specs.Answer.{Wanted, wanted, carried}
 
 -- a range of minutes: its first and its last
 pub record Range : Type 0 where
@@ -33,9 +33,12 @@ module _ (g : Graph) (carries : ℕ → ℕ → Bool) (from to : ℕ) where
   unfoldable pub ranges : ℕ → ℕ → List Range
   ranges low latest = ranges_from low (suc latest - low) (possible g carries from to)
 
--- those of a search on lent tables
-abbrev pub ranges_for : Search → List ℕ → List ℕ → ℕ → ℕ → List Range
-ranges_for s es t = ranges (graph s.ends) (carried s es t) s.source s.destination
+-- those asked for on lent tables
+abbrev pub ranges_for : Wanted → List ℕ → List ℕ → ℕ → ℕ → List Range
+ranges_for w es t = ranges w.links (carried w es t) w.source w.destination
+
+abbrev pub ranges_of : Asked → ℕ → ℕ → List Range
+ranges_of a = ranges_for (wanted a.search.now) a.table.events.now a.table.figures.now
 
 -- first and last of each
 unfoldable pub figures : List Range → List ℕ
@@ -46,7 +49,7 @@ figures (r ∷ rs) = r.first ∷ r.last ∷ figures rs
 abbrev pub list_table : List Range → List ℕ
 list_table rs = padded list_size (figures rs)
 
--- the start of a choice, or the minute after the window where there is none
-abbrev pub start_or : ℕ → Choice Grant → ℕ
-start_or after (granted g) = g.start
-start_or after no_start = after
+-- the start of a choice, where there is one
+abbrev pub start_of : Choice Grant → Option Minute
+start_of (granted g) = Some (record { 0 = g.start })
+start_of no_start = None

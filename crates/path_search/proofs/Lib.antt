@@ -3,7 +3,7 @@ pub mod Chains
 pub mod Loops
 pub mod Routes
 pub mod Paths
-pub mod Answers
+pub mod InRange
 pub mod Agree
 pub mod Needed
 pub mod Theorems
@@ -11,4 +11,3 @@ mod Rounds
 mod DistanceLaws
 mod Picks
 mod Done
-mod Looked

@@ -11,12 +11,15 @@ use native.Mathlib.Omega.{arith}
 use lib.Dec.{eqb}
 use lib.ListN.{length}
 use borrow.Author.Tests.{eqb-true, eq-eqb, ne_eqb}
+use Rattle.std.proofs.Common.{Some, None}
+use Rattle.units.specs.declared.LinkNumber.{LinkNumber}
 use Rattle.units.specs.Limits.{last_node, most_hops}
 use Rattle.units.specs.Search.{Found, at, nothing, first_from}
 use Rattle.units.proofs.Search.{IsFirst, first_from_found, first_from_first, first_from_nothing, clash, not_true, passes?}
 use Rattle.path_search.specs.Paths.{Graph, reaches, lowest, fewest, along, none, route_of, route, onward}
 use Rattle.path_search.specs.Rounds.{far, distance}
-use Rattle.path_search.specs.Picks.{least_end, nearer_link, place_of, picked, Walkable}
+use Rattle.path_search.specs.Picks.{least_end, nearer_link, picked, Walkable}
+use Rattle.path_search.specs.Answer.{found_link}
 use Rattle.path_search.proofs.Chains.{Leaves, reaches_first, reaches_step, lowest_length}
 use Rattle.path_search.proofs.Loops.{NodesBelow}
 use Rattle.path_search.proofs.Agree.{first_from_agree}
@@ -67,15 +70,24 @@ module _ (g : Graph) (usable : ℕ → Bool) (figure : ℕ → ℕ) where
     pub next : picked g usable figure (suc n) v ≡ link ∷ picked g usable figure n (g.to link)
 
   -- where enough links can be picked, the search finds the next
-  pub picked_next : (n v link : ℕ) → length (picked g usable figure (suc n) v) ≡ suc n → link ≡ place_of g.count (nearer_link g usable figure v n) → Picked n v link
+  pub picked_next : (n v : ℕ) (link : LinkNumber) → length (picked g usable figure (suc n) v) ≡ suc n → found_link (nearer_link g usable figure v n) ≡ Some link → Picked n v link.0
   unfolding picked
   picked_next n v link long e = by (nearer_link g usable figure v n) refl
     where
-      by : (f : Found) → nearer_link g usable figure v n ≡ f → Picked n v link
+      by : (f : Found) → nearer_link g usable figure v n ≡ f → Picked n v link.0
       by (at l) q =
-          let s : link ≡ l = e ∙ ap (place_of g.count) q in
+          let same : record { 0 = l } ≡ link = cc in
+          let s : link.0 ≡ l = sym (ap (λ k. k.0) same) in
           let r : IsFirst 0 g.count (onward g usable (λ w. eqb (figure w) n) v) l = first_from_found (onward g usable (λ w. eqb (figure w) n) v) 0 g.count q in
           record { known = omega arith; next = rw (q, picked) (ap (λ k. k ∷ picked g usable figure n (g.to k)) (sym s)) }
+      by nothing q = let z : ◌≡◌ {A = ℕ} 0 1 = cc in absurd (omega arith)
+
+  pub some_left : (n v : ℕ) → length (picked g usable figure (suc n) v) ≡ suc n → ¬ (found_link (nearer_link g usable figure v n) ≡ None)
+  unfolding picked
+  some_left n v long e = by (nearer_link g usable figure v n) refl
+    where
+      by : (f : Found) → nearer_link g usable figure v n ≡ f → ⊥
+      by (at l) q = let z : ◌≡◌ {A = ℕ} 0 1 = cc in absurd (omega arith)
       by nothing q = let z : 0 ≡ suc n = rw (q, picked) at long in absurd (omega arith)
 
 -- the figures are the distances of up to 31 links

@@ -11,6 +11,7 @@ use lib.Dec.{eqb, ltb}
 use lib.ListN.{length, set}
 use lib.Seq.{get_or-set_same, get_or-set_other}
 use borrow.Author.Tests.{eq-eqb, ne_eqb, lt-ltb}
+use Rattle.std.proofs.Math.Bool.{and-false}
 use Rattle.units.specs.Limits.{last_node}
 use Rattle.units.specs.Search.{any_below}
 use Rattle.units.proofs.Search.{any_below_some}
@@ -111,10 +112,6 @@ module _ (g : Graph) (usable : ℕ → Bool) (figure : ℕ → ℕ) (near : ℕ)
     used_not e =
         rw (add-one n)
         (record {
-          shows = λ v k. used.shows v k ∙ sym (spread_not n v (ap (λ t. eqb (g.from n) v && t) e ∙ and_false (eqb (g.from n) v)));
+          shows = λ v k. used.shows v k ∙ sym (spread_not n v (ap (λ t. eqb (g.from n) v && t) e ∙ and-false (eqb (g.from n) v)));
           told = used.told ∙ rw (e, any_below);
         })
-      where
-        and_false : (t : Bool) → (t && false) ≡ false
-        and_false true = refl
-        and_false false = refl

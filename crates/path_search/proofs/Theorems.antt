@@ -10,15 +10,16 @@ use native.Mathlib.Decide.{dec_le}
 use native.Mathlib.Omega.{arith}
 use lib.ListN.{length, take, replicate}
 use lib.Seq.{take-append_seam}
+use Rattle.std.proofs.Common.{Option, unwrap_or}
 use Rattle.units.specs.Limits.{last_node, most_hops}
 use Rattle.units.specs.Lists.{Within, padded}
 use Rattle.units.proofs.Search.{first_from_nothing, clash, not_true}
-use Rattle.path_search.specs.declared.LinkEnds.{LinkEnds}
+use Rattle.path_search.specs.declared.ends.LinkEnds.{LinkEnds}
 use Rattle.path_search.specs.declared.LinkSet.{LinkSet}
 use Rattle.path_search.specs.declared.Path.{Path}
 use Rattle.path_search.specs.declared.RoundsDone.{RoundsDone}
 use Rattle.path_search.specs.Paths.{Graph, Route, none, reaches, fewest, route_of, route}
-use Rattle.path_search.specs.Answer.{InRange, graph, usable, path_of, answer}
+use Rattle.path_search.specs.Answer.{graph, usable, path_of, found_path, answer}
 use Rattle.path_search.specs.Right.{Joins, Chosen, Right, chosen, no_chain}
 use Rattle.path_search.specs.Rounds.{Shows, distance}
 use Rattle.path_search.specs.Needed.{most_needed}
@@ -27,7 +28,7 @@ use Rattle.path_search.proofs.Chains.{Way, chain_reaches, reaches_iff}
 use Rattle.path_search.proofs.Loops.{NodesBelow}
 use Rattle.path_search.proofs.Routes.{short_way, IsRoute, is_route_only, is_route_distinct, RouteView, found, no_chain as no_way, route_view}
 use Rattle.path_search.proofs.Paths.{chain_leads, route_path}
-use Rattle.path_search.proofs.Answers.{nodes_below}
+use Rattle.path_search.proofs.InRange.{nodes_below}
 use Rattle.path_search.proofs.Needed.{fewest_needs, most_right}
 use Rattle.path_search.proofs.DistanceLaws.{Says, fewest_are, none_yet, distance_says}
 
@@ -109,11 +110,15 @@ module _ (g : Graph) (usable : ℕ → Bool) (source destination : ℕ) where
   right_only r s (no_chain h) (chosen q d) = absurd (h q d.joins)
   right_only r s (no_chain h) (no_chain k) = refl
 
--- what `find_route` promises is the right answer
-pub find_route_right : (ends : LinkEnds) (set : LinkSet) (source destination : ℕ) → InRange ends → source ≢ destination → (r : Path)
+-- what C is answered is the right answer, and so is what `find_route` promises
+pub find_route_right : (ends : LinkEnds) (set : LinkSet) (source destination : ℕ) → source ≢ destination → (r : Path)
     → r ≡ answer (route (graph ends) (usable set) destination source) → Right (graph ends) (usable set) source destination r
-find_route_right ends set source destination in_range apart r e =
-    subst (Right (graph ends) (usable set) source destination) (sym e) (answer_right (graph ends) (usable set) source destination apart (nodes_below ends in_range))
+find_route_right ends set source destination apart r e =
+    subst (Right (graph ends) (usable set) source destination) (sym e) (answer_right (graph ends) (usable set) source destination apart (nodes_below ends))
+
+pub found_path_right : (ends : LinkEnds) (set : LinkSet) (source destination : ℕ) → source ≢ destination → (r : Option Path)
+    → r ≡ found_path (route (graph ends) (usable set) destination source) → Right (graph ends) (usable set) source destination (unwrap_or r (path_of []))
+found_path_right ends set source destination apart r e = find_route_right ends set source destination apart (unwrap_or r (path_of [])) (ap (λ p. unwrap_or p (path_of [])) e)
 
 -- what a figure of the rounds says of its node
 figure_right : (g : Graph) (usable : ℕ → Bool) (destination : ℕ) → NodesBelow g (suc last_node) → (v : ℕ) → v ≤ last_node
@@ -126,10 +131,10 @@ figure_right g usable destination below v node = by (distance g usable destinati
         none_leads (λ path j. let s = short_way g usable destination v below node path (joins_way g usable v destination path j) in clash (chain_reaches g usable destination v s.0 s.1) (u (length s.0) s.2))
 
 -- what `distances` promises is the right answer
-pub distances_right : (ends : LinkEnds) (set : LinkSet) (destination : ℕ) → InRange ends → (done : RoundsDone) → Shows done.table (distance (graph ends) (usable set) destination last_node)
+pub distances_right : (ends : LinkEnds) (set : LinkSet) (destination : ℕ) → (done : RoundsDone) → Shows done.table (distance (graph ends) (usable set) destination last_node)
     → done.number ≡ suc (most_needed (graph ends) (usable set) destination) → done.reached ≡ false → RoundsRight (graph ends) (usable set) destination done
-distances_right ends set destination in_range done shows number last =
-    let below = nodes_below ends in_range in
+distances_right ends set destination done shows number last =
+    let below = nodes_below ends in
     record {
       figure = λ v h. subst (FigureRight (graph ends) (usable set) destination v) (sym (shows v h)) (figure_right (graph ends) (usable set) destination below v h);
       most = most_needed (graph ends) (usable set) destination;

@@ -23,6 +23,7 @@ use Rattle.std.proofs.lemmas.Nat.{le-div}
 use Rattle.units.specs.Lists.{count_from}
 use Rattle.places.specs.Places.{number_at, numbers_in, slot_among, further}
 
+-- the first n of m numbers
 first_counts : (i n m : ℕ) → n ≤ m → take n (count_from i m) ≡ count_from i n
 unfolding count_from
 first_counts i zero m h = refl

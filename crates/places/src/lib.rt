@@ -13,7 +13,7 @@ pub const START: usize = 1;
 
 pub const DURATION: usize = 2;
 
-// Where a number stands among the first `count` places.
+// Where a number stands among the first `count` places: at a place, or nowhere.
 pub fn find(book: &[u32], size: usize, count: usize, number: u32) -> Option<usize>
     requires { (0 < size) × (count * size ≤ length book.now) }
     ensures { result ≡ find size number book.now count }

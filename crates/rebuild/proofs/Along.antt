@@ -6,7 +6,6 @@ use Prim.Native.Nat.{ℕ, ◌+◌, ◌≤◌, ◌<◌}
 use native.Mathlib.Numerals.{add-one}
 use lib.ListN.{length, get_or, drop, drop_of_length-le}
 use lib.Seq.{drop-cons}
-use Rattle.units.specs.Lists.{all}
 use Rattle.free_table.specs.Taking.{less_span}
 use Rattle.free_table.specs.Looking.{enough_span}
 use Rattle.rebuild.specs.Rebuilding.{less_path, enough_path}

@@ -78,7 +78,7 @@ pub fn rebuild(
 {
     let capacities = column(links, |link| link.capacity.0);
     reset_events(events, head.clock);
-    reset_free(free, &capacities, links.len());
+    reset_free(free, &capacities[..links.len()]);
     let mut fits = true;
     for place in (0..head.bookings as usize).rev() {
         if !add_booking(head, events, free, booking_at(book, place)) {

@@ -1,7 +1,8 @@
 -- What decimal numbers are: the tens and then the last digit; digits alone, no leading zero, and the number can be read back.
 use mathlib.Core.Path.{◌≡◌, refl, sym, ap, ◌∙◌, subst}
 use mathlib.Core.List.{List, [], ◌∷◌, ◌++◌}
-use Prim.Native.Nat.{ℕ, zero, suc, ◌+◌, ◌-◌, ◌*◌, ◌/◌, ◌%◌, ◌^◌, ◌≤◌, ◌<◌}
+use Prim.Native.Nat.{ℕ, max, zero, suc, ◌+◌, ◌-◌, ◌*◌, ◌/◌, ◌%◌, ◌^◌, ◌≤◌, ◌<◌}
+use native.Mathlib.Nat.{pow-succ'}
 use native.Mathlib.Decide.{dec_lt}
 use native.Mathlib.Omega.{arith}
 use lib.ListN.{length, get_or, length-append, get_or-append}
@@ -83,3 +84,15 @@ no_leading_zero n = (leads n).0
 pub as_printed : (n : ℕ) → n < 2 ^ 64 → fmt.decimal n ≡ decimal n
 unfolding decimal
 as_printed n h = sym (decimal_from_appends digits (record { one = digits_short; more = digits_long }) (suc n) n h (omega (arith, length-decimal-le_succ n h)))
+
+-- how many digits a number has, by the powers of ten between which it lies; zero has one
+pub digit_count : (n k : ℕ) → 10 ^ k ≤ max n 1 → max n 1 < 10 * 10 ^ k → length (decimal n) ≡ suc k
+digit_count n = by_digits (λ n ds. (k : ℕ) → 10 ^ k ≤ max n 1 → max n 1 < 10 * 10 ^ k → length ds ≡ suc k) one more (suc n) n (omega arith)
+  where
+    one : (n : ℕ) → n < 10 → (k : ℕ) → 10 ^ k ≤ max n 1 → max n 1 < 10 * 10 ^ k → length (digit n ∷ []) ≡ suc k
+    one n h zero low high = refl
+    one n h (suc k) low high = absurd (omega (arith, pow-succ' 10 k, low, high))
+
+    more : (n : ℕ) (ds : List ℕ) → 10 ≤ n → ((k : ℕ) → 10 ^ k ≤ max (n / 10) 1 → max (n / 10) 1 < 10 * 10 ^ k → length ds ≡ suc k) → (k : ℕ) → 10 ^ k ≤ max n 1 → max n 1 < 10 * 10 ^ k → length (ds ++ (digit (n % 10) ∷ [])) ≡ suc k
+    more n ds h a zero low high = absurd (omega (arith, high))
+    more n ds h a (suc k) low high = rw length-append (omega (arith, a k (omega (arith, low, pow-succ' 10 k)) (omega (arith, high, pow-succ' 10 k))))

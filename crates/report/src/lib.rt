@@ -10,7 +10,7 @@ ghost use Rattle.report.specs.Line.{numbers, route, answer, line, max_line, has_
 ghost use Rattle.report.specs.Kinds.{report_of};
 ghost use Rattle.report.specs.Written.{Wrote, HasRoom, Writes};
 
-use itoa::Buffer;
+use itoa::write_digits;
 use units::{Minute, PATH_LINKS};
 
 // The bytes of the longest line: a place of 20 digits, two figures and 31 links of 10, and the words of a booking.
@@ -61,13 +61,14 @@ impl LineWriter<'_> {
     }
 
     // Writes a number in decimal.
-    #[tactic(auto, using(crate::proofs::Decimals::as_printed))]
     fn write_decimal(&mut self, value: u64)
         requires { HasRoom (decimal value) self.old }
         ensures { Writes (decimal value) self.old self.new }
     {
-        let mut digits = Buffer::new();
-        self.write_bytes(digits.format(value).as_bytes());
+        let digits = value.max(1).ilog10() as usize + 1;
+        let end = self.at + digits;
+        write_digits(value, self.out, end);
+        self.at = end;
     }
 
     // Writes a word and the number behind it.

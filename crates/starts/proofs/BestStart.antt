@@ -3,23 +3,25 @@ use mathlib.Core.Path.{◌≡◌, sym, ◌∙◌, ap, ap₂}
 use Prim.Native.Nat.{ℕ, ◌≤◌, ◌<◌}
 use native.Mathlib.Omega.{arith}
 use lib.ListN.{length}
+use Rattle.std.proofs.Common.{Ok, Err}
 use Rattle.units.specs.declared.Minute.{Minute}
+use Rattle.units.specs.declared.Refusal.{Refusal}
 use Rattle.units.specs.declared.Request.{Request}
 use Rattle.units.specs.Limits.{most_links, most_events}
 use Rattle.units.specs.Lists.{padded}
-use Rattle.units.specs.Spans.{low_of, span_of}
+use Rattle.units.specs.Spans.{span_of}
 use Rattle.free_table.specs.Looking.{TablesSized}
 use Rattle.path_search.specs.declared.Path.{Path}
-use Rattle.path_search.specs.Answer.{InRange}
+use Rattle.path_search.specs.Ends.{InRange}
 use Rattle.path_search.specs.Answer as search
 use Rattle.path_search.proofs.Agree.{Agree}
-use Rattle.choice.specs.declared.StartChoice.TheVariants.{Start, Refused}
 use Rattle.choice.specs.declared.Chosen.{Chosen}
 use Rattle.choice.specs.Choice.{Grant, Choice, granted, no_start, choose}
-use Rattle.choice.specs.Answer.{Askable}
+use Rattle.choice.specs.EventTables.{clock_of}
 use Rattle.choice.specs.Answer as answers
 use Rattle.choice.proofs.Figures.{choose_agree, carries_shown}
 use Rattle.choice.proofs.Answers.{started, none_started}
+use Rattle.choice.proofs.EventTables.{are_events}
 use Rattle.listing.specs.Ranges.{ranges_for}
 use Rattle.listing.proofs.Laws.{ranges_agree}
 use Rattle.units.specs.declared.LinkTable.{LinkTable}
@@ -27,7 +29,7 @@ use Rattle.rules.specs.Plain.{graph, free, carries, low}
 use Rattle.rules.specs.Calls.{starts, refuse, best, every, chosen as desk_chosen}
 use Rattle.rules.specs.Tables.{Tables, events_of, held, Fine}
 use Rattle.units.specs.LinkTables.{links_of}
-use Rattle.starts.specs.Asked.{ends_of, search_of}
+use Rattle.starts.specs.Asked.{ends_of, search_of, Asks}
 use Rattle.rules.proofs.Uses.{all_times, free_changes}
 use Rattle.rules.proofs.Tests.{RequestRight, link_right}
 use Rattle.rules.proofs.Fine.{sizes, book_obeys, events_are, free_are}
@@ -37,7 +39,7 @@ module _ (links : LinkTable) (t : Tables) (f : Fine (links_of links) t) where
   pub few_links : links.count ≤ most_links
   few_links = rw (← (links_count links)) (sizes f).links_right.1
 
-  ends_in_range : InRange (ends_of links)
+  ends_in_range : InRange links.count links.from links.to
   ends_in_range = record {
     few = few_links;
     from_node = λ l h. rw (← (from_column links l h)) (link_right (links_of links) (book_obeys f).links_right l (rw (links_count links) h)).from_right;
@@ -47,17 +49,17 @@ module _ (links : LinkTable) (t : Tables) (f : Fine (links_of links) t) where
   pub tables_sized : TablesSized t.events t.free
   tables_sized = record { some = omega (arith, (sizes f).events_right); free_sized = omega (arith, (sizes f).events_right, (sizes f).free_right) }
 
+  -- the events are those of the clock and the times of the bookings
+  shown_events : t.events ≡ padded (length t.events) (events_of (held t))
+  shown_events = events_are f ∙ ap (λ n. padded n (events_of (held t))) (sym (sizes f).events_right)
+
   module _ (r : Request) (q : RequestRight r) where
-    pub best_asks : Askable (search_of t.head links r) t.events t.free (low_of t.head r) r.latest.0
+    pub best_asks : Asks t.head links t.events r
     best_asks = record {
       in_range = ends_in_range;
-      sized = tables_sized;
-      clock = t.head.clock.0;
-      times = all_times (held t);
-      are_events = events_are f ∙ ap (λ n. padded n (events_of (held t))) (sym (sizes f).events_right);
-      not_past = omega arith;
       lasts = q.duration_right.0;
-      in_time = omega (arith, q.duration_right.1, q.latest_right);
+      are_events = are_events t.events t.head.clock.0 (all_times (held t)) shown_events;
+      askable = record { not_past = omega (arith, ap clock_of shown_events); in_time = omega (arith, q.duration_right.1, q.latest_right) };
     }
 
     -- the choice by the tables, as the chooser promises it
@@ -70,7 +72,7 @@ module _ (links : LinkTable) (t : Tables) (f : Fine (links_of links) t) where
 
     -- the links, and what they carry from low on, are the same
     agree : (m : ℕ) → low (held t) r ≤ m → m ≤ r.latest.0
-        → Agree (search.graph (ends_of links)) (graph (links_of links)) (answers.carried (search_of t.head links r) t.events t.free m) (carries (links_of links) (held t) r m)
+        → Agree (ends_of links) (graph (links_of links)) (answers.carried (search_of t.head links r) t.events t.free m) (carries (links_of links) (held t) r m)
     agree m a b = record {
       count = sym (links_count links);
       from = λ l h. sym (from_column links l h);
@@ -85,13 +87,13 @@ module _ (links : LinkTable) (t : Tables) (f : Fine (links_of links) t) where
 
     pub same_choice : by_tables ≡ by_book
     same_choice =
-        choose_agree (search.graph (ends_of links)) (graph (links_of links)) (answers.carried (search_of t.head links r) t.events t.free) (carries (links_of links) (held t) r) r.from r.to (low (held t) r) r.latest.0 agree
+        choose_agree (ends_of links) (graph (links_of links)) (answers.carried (search_of t.head links r) t.events t.free) (carries (links_of links) (held t) r) r.from r.to (low (held t) r) r.latest.0 agree
 
     -- the ranges by the tables are those by the plain book
     pub same_ranges : ranges_for (search_of t.head links r) t.events t.free (low (held t) r) r.latest.0 ≡ every (links_of links) (held t) r
     unfolding every
     same_ranges =
-        ranges_agree (search.graph (ends_of links)) (graph (links_of links)) (answers.carried (search_of t.head links r) t.events t.free) (carries (links_of links) (held t) r) r.from r.to (low (held t) r) r.latest.0 agree
+        ranges_agree (ends_of links) (graph (links_of links)) (answers.carried (search_of t.head links r) t.events t.free) (carries (links_of links) (held t) r) r.from r.to (low (held t) r) r.latest.0 agree
 
     -- a start that the chooser answers is the plain book's grant, with its path
     pub record Started (start : Minute) (path : Path) : Type 0 where
@@ -100,12 +102,12 @@ module _ (links : LinkTable) (t : Tables) (f : Fine (links_of links) t) where
       pub start_is : start ≡ record { 0 = grant.start }
       pub path_is : path ≡ search.path_of grant.path
 
-    pub chosen_start : (a : Chosen) → a ≡ answers.chosen by_tables → (start : Minute) → a.choice ≡ Start start → Started start a.path
+    pub chosen_start : (a : Chosen) → a ≡ answers.chosen by_tables → (start : Minute) → a.choice ≡ Ok start → Started start a.path
     chosen_start a e start s =
         let w = started by_tables a e start s in
         record { grant = w.grant; is_best = sym same_choice ∙ w.is_granted; start_is = w.start_is; path_is = w.path_is }
 
-    pub chosen_none : (a : Chosen) → a ≡ answers.chosen by_tables → (k : ℕ) → a.choice ≡ Refused k → by_book ≡ no_start
+    pub chosen_none : (a : Chosen) → a ≡ answers.chosen by_tables → (k : Refusal) → a.choice ≡ Err k → by_book ≡ no_start
     chosen_none a e k s = sym same_choice ∙ none_started by_tables a e k s
 
     -- what the plain book answers then

@@ -5,23 +5,26 @@
 ghost use Rattle.std.specs.Prelude.{◌≡◌, ◌≤◌, length};
 ghost use Rattle.units.specs.Limits.{last_shown, most_ranges, list_size};
 ghost use Rattle.units.specs.Spans.{low_of, span_of};
-ghost use Rattle.choice.specs.Answer.{choice_for, Askable, chosen};
+ghost use Rattle.path_search.specs.Ends.{InRange};
+ghost use Rattle.choice.specs.Answer.{wanted, choice_for, chosen};
 ghost use Rattle.listing.specs.Ranges.{ranges_for, list_table};
-ghost use Rattle.starts.specs.Asked.{search_of};
+ghost use Rattle.starts.specs.Asked.{search_of, Asks};
 
-use choice::{Chosen, Search, choose};
+use choice::{Asked, Chosen, Search};
+use free_table::FreeTable;
 use listing::list_ranges;
 use path_search::LinkEnds;
 use units::{Duration, Head, LinkTable, Request, low_minute, span_of};
 
 // What a request asks of any start on these links.
 fn search_of(head: Head, links: LinkTable, request: Request) -> Search
-    requires { span_of head request.duration.0 ≤ last_shown }
-    ensures { result ≡ search_of head links request }
+    requires in_range { InRange links.count links.from links.to }
+    requires lasts { 1 ≤ span_of head request.duration.0 }
+    requires fits { span_of head request.duration.0 ≤ last_shown }
+    ensures { wanted result ≡ search_of head links request }
 {
     let from = links.from;
     let to = links.to;
-    let bandwidth = request.bandwidth;
     Search {
         ends: LinkEnds {
             count: links.count,
@@ -30,43 +33,44 @@ fn search_of(head: Head, links: LinkTable, request: Request) -> Search
         },
         source: request.from,
         destination: request.to,
-        bandwidth,
+        bandwidth: request.bandwidth,
         span: Duration(span_of(head, request.duration) as u32),
     }
 }
 
 // The earliest start of a request's window, with its path.
-pub fn best_start(
-    head: Head,
-    links: LinkTable,
-    events: &[u32],
-    free: &[u32],
-    request: Request,
-) -> Chosen
-    requires { Askable (search_of head links request) events.now free.now (low_of head request) request.latest.0 }
-    ensures { result ≡ chosen (choice_for (search_of head links request) events.now free.now (low_of head request) request.latest.0) }
+pub fn best_start(head: Head, links: LinkTable, table: FreeTable, request: Request) -> Chosen
+    requires { Asks head links table.events.now request }
+    ensures { result ≡ chosen (choice_for (search_of head links request) table.entry.events.now table.entry.figures.now (low_of head request) request.latest.0) }
 {
     let low = low_minute(head, request);
     let search = search_of(head, links, request);
-    choose(search, events, free, low, request.latest)
+    let asked = Asked {
+        search: &search,
+        table,
+    };
+    asked.choose(low, request.latest)
 }
 
 // Every start of a request's window, written as ranges into the list; how many ranges there are.
 pub fn all_starts(
     head: Head,
     links: LinkTable,
-    events: &[u32],
-    free: &[u32],
+    table: FreeTable,
     request: Request,
     list: &mut [u32],
 ) -> u32
-    requires askable { Askable (search_of head links request) events.now free.now (low_of head request) request.latest.0 }
-    requires events_fit { length events.now ≤ most_ranges }
+    requires asks { Asks head links table.events.now request }
+    requires events_fit { length table.events.now ≤ most_ranges }
     requires list_sized { length list.old ≡ list_size }
-    ensures { (result ≡ length (ranges_for (search_of head links request) events.now free.now (low_of head request) request.latest.0))
-        × (list.new ≡ list_table (ranges_for (search_of head links request) events.now free.now (low_of head request) request.latest.0)) }
+    ensures count { result ≡ length (ranges_for (search_of head links request) table.entry.events.now table.entry.figures.now (low_of head request) request.latest.0) }
+    ensures written { list.new ≡ list_table (ranges_for (search_of head links request) table.entry.events.now table.entry.figures.now (low_of head request) request.latest.0) }
 {
     let low = low_minute(head, request);
     let search = search_of(head, links, request);
-    list_ranges(search, events, free, low, request.latest, list)
+    let asked = Asked {
+        search: &search,
+        table,
+    };
+    list_ranges(&asked, low, request.latest, list)
 }

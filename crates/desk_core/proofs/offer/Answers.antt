@@ -8,7 +8,7 @@ use Rattle.rules.specs.Calls.{Ask, ask, starts, refuse, first_refusal, own_check
 use Rattle.rules.proofs.Exits.{refused_with, stopped, all_passed, accepted}
 use Rattle.desk_core.proofs.Handed.{handed_grant}
 use Rattle.refusals.proofs.TableChecks.{fine, tables_refused}
-use Rattle.starts.proofs.BestStart.{best_asks, chosen_start, chosen_none, best_starts, best_none}
+use Rattle.starts.proofs.BestStart.{tables_sized, best_asks, chosen_start, chosen_none, best_starts, best_none}
 use Rattle.desk_core.proofs.offer.Goals as goal
 
 pub returns-then-refusal-ne0 : goal.returns-then-refusal-ne0
@@ -23,6 +23,11 @@ returns-then-refusal-ne0-2 c = let a = c.args in
     let t = lent a.head a.events.now a.free.now a.book.now in
     let f = fine l t true (sym c.table_refusal-refusal.ensures ∙ c.if-refusal-ne0.false) in
     c.refused-then-refusal-ne0-2.ensures ∙ handed_grant l t (ask (Ask.offer a.request)) (refused_with _ t) (stopped l t (Ask.offer a.request) f.is_sized refl f.is_sound _ (sym c.offer_refusal-refusal.ensures) c.if-refusal-ne0-2.true)
+
+pub invariant_of-table : goal.invariant_of-table
+invariant_of-table c = let a = c.args in
+    let t = lent a.head a.events.now a.free.now a.book.now in
+    record { sized = tables_sized a.links t (fine (links_of a.links) t true (sym c.table_refusal-refusal.ensures ∙ c.if-refusal-ne0.false)) }
 
 pub best_start-best-requires : goal.best_start-best-requires
 best_start-best-requires c = let a = c.args in
@@ -50,5 +55,5 @@ returns c = let a = c.args in
     let f = fine l t true (sym c.table_refusal-refusal.ensures ∙ c.if-refusal-ne0.false) in
     let passes : first_refusal (own_checks l (held t) (Ask.offer a.request)) ≡ 0 = sym c.offer_refusal-refusal.ensures ∙ c.if-refusal-ne0-2.false in
     let q = request_right a.request (all_passed l t (Ask.offer a.request) f.is_sized refl f.is_sound passes).0 in
-    let s = chosen_start a.links t f a.request q _ c.best_start-best.ensures _ c.in-Start.is in
+    let s = chosen_start a.links t f a.request q _ c.best_start-best.ensures _ c.in-Ok.is in
     c.started.ensures ∙ ap₂ (λ x y. record { refusal = 0; start = x; path = y }) s.start_is s.path_is ∙ handed_grant l t (ask (Ask.offer a.request)) _ (accepted l t (Ask.offer a.request) f.is_sized refl f.is_sound passes (starts s.grant) (best_starts a.links t f a.request q s.grant s.is_best))

@@ -1,128 +1,108 @@
--- list_ranges meets its contract. The ranges before `start` are found, counted and written.
-use mathlib.Core.Path.{sym, ◌∙◌, ap}
-use Prim.Native.Nat.{ℕ, ◌≤◌, ◌<◌}
+-- list_ranges meets its contract. The ranges before the next start are found, counted and written.
+use mathlib.Core.Bool.{true}
+use mathlib.Core.Path.{◌≡◌, sym, ◌∙◌, ap, subst}
+use Prim.Native.Nat.{suc, ◌-◌, ◌*◌, ◌≤◌, ◌<◌}
 use native.Mathlib.Nat.{le_refl}
 use native.Mathlib.Omega.{arith}
-use mathlib.Core.List.{List}
-use lib.ListN.{length, length-set, length-append}
+use borrow.Author.Rules.{rules}
+use borrow.Rule.Slice.PartMut.{put_mid}
+use lib.ListN.{length, take, drop, replicate, length-set}
+use mathlib.Core.List.{◌++◌}
+use Rattle.std.proofs.lemmas.Slice.{overwrites}
+use Rattle.std.specs.Result.{result_ok}
 use Rattle.units.specs.Limits.{most_ranges}
-use Rattle.free_table.specs.Figures.{kept}
 use Rattle.path_search.specs.Answer.{graph}
-use Rattle.choice.specs.Carrying.{carries}
-use Rattle.choice.specs.Answer.{Askable}
-use Rattle.choice.specs.declared.Search.{Search}
-use Rattle.timeline.specs.Events.{events}
-use Rattle.choice.proofs.Lent.{kept_back}
+use Rattle.choice.specs.Answer.{wanted, carried, possible_of, choice_of}
 use Rattle.choice.proofs.Exits.{askable_part}
-use Rattle.listing.proofs.Found.{next_start, listed_first, start_passes, start_after, listed_few, listed_next, all_counted, all_written}
+use Rattle.listing.specs.Ranges.{start_of}
+use Rattle.listing.proofs.Found.{Listed, NextStart, minute_or, start_or, start_answered, start_found, next_start, listed_first, listed_few, listed_next, all_counted, all_written}
 use Rattle.listing.proofs.list_ranges.Goals as goal
-use Rattle.listing.proofs.list_ranges.Goals.{After-run_end-end}
+use Rattle.listing.proofs.list_ranges.Goals.{After-ok-next, In-Some, After-run_end-end, After-next_start-next}
 
--- the list has a place for each event
-events_few : {s : Search} {es t : List ℕ} {low latest : ℕ} (a : Askable s es t low latest) → length es ≤ most_ranges → length (events a.clock a.times) ≤ most_ranges
-events_few a few = omega (arith, simp (length-append) at (ap length a.are_events))
+-- the first start is that of the choice
+first_is : (c : After-ok-next) → c.ok-next.result ≡ start_of (choice_of c.args.asked.now c.args.low.0 c.args.latest.0)
+first_is c = c.ok-next.ensures.value ∙ ap (λ r. result_ok r.choice) c.choose.ensures ∙ start_answered (choice_of c.args.asked.now c.args.low.0 c.args.latest.0)
+
+first_or : (c : After-ok-next) → minute_or (suc c.args.latest.0) c.ok-next.result ≡ start_or (suc c.args.latest.0) (choice_of c.args.asked.now c.args.low.0 c.args.latest.0)
+first_or c = ap (minute_or (suc c.args.latest.0)) (first_is c)
+
+-- the start that is looked at lies in the window, behind the ranges so far
+listed_to : (c : In-Some) → Listed (possible_of c.args.asked.now) c.args.latest.0 (minute_or (suc c.args.latest.0) c.ok-next.result) c.loop-next.list c.loop-next.count c.in-Some.start.0
+listed_to c =
+    subst (Listed (possible_of c.args.asked.now) c.args.latest.0 (minute_or (suc c.args.latest.0) c.ok-next.result) c.loop-next.list c.loop-next.count)
+    (ap (minute_or (suc c.args.latest.0)) c.in-Some.is) c.loop-next.invariant.listed
+
+-- it is possible
+looked_at : (c : In-Some) → (c.args.low.0 ≤ c.in-Some.start.0) × (c.in-Some.start.0 ≤ c.args.latest.0) × (possible_of c.args.asked.now c.in-Some.start.0 ≡ true)
+looked_at c = c.loop-next.invariant.in_window c.in-Some.start c.in-Some.is
 
 -- where a range is found there is a place for it
-room : (c : After-run_end-end) → c.loop-start.count < most_ranges
+room : (c : After-run_end-end) → c.loop-next.count < most_ranges
 room c =
-    let a = c.args in
-    let p = c.requires.askable in
-    let l = c.loop-start in
-    let first = c.first_start-start in
-    let r = c.run_end-end in
-    listed_few (graph a.search.ends) (carries (kept a.events.now a.free.now) a.search.bandwidth.0 a.search.span.0) a.search.source a.search.destination a.low.0 a.latest.0 first.result first.ensures l.list l.count l.start l.invariant (omega (arith, c.loop-start-test.true)) r.result r.ensures p.clock p.times (kept_back p.clock p.times a.events.now a.free.now p.are_events a.search.bandwidth.0 a.search.span.0) p.not_past (events_few p c.requires.events_fit)
+    let at = goal.at.After-run_end-end c in
+    listed_few c.args.asked.now c.args.low.0 c.args.latest.0 (minute_or (suc c.args.latest.0) c.ok-next.result) (first_or at.After-ok-next) c.loop-next.list c.loop-next.count c.in-Some.start.0 (listed_to at.In-Some) (looked_at at.In-Some).1
+    c.run_end-end.result.0 c.run_end-end.ensures c.requires.askable.not_past c.requires.events_fit
 
-pub first_start-start-requires : goal.first_start-start-requires
-first_start-start-requires c = c.requires.askable
+-- the next start, or the minute after the window
+following : (c : After-next_start-next) → NextStart (possible_of c.args.asked.now) c.run_end-end.result.0 (suc c.args.latest.0) (minute_or (suc c.args.latest.0) c.next_start-next.result)
+following c =
+    let a = c.args.asked.now in
+    next_start (graph a.search.now.ends) (carried (wanted a.search.now) a.table.events.now a.table.figures.now) a.search.now.source a.search.now.destination c.run_end-end.result.0 c.args.latest.0
+    (minute_or (suc c.args.latest.0) c.next_start-next.result) c.run_end-end.ensures.not_past (ap (minute_or (suc c.args.latest.0)) c.next_start-next.ensures)
 
-pub loop-start-init : goal.loop-start-init
-loop-start-init c =
-    let a = c.args in
-    listed_first (graph a.search.ends) (carries (kept a.events.now a.free.now) a.search.bandwidth.0 a.search.span.0) a.search.source a.search.destination a.low.0 a.latest.0 c.first_start-start.result c.first_start-start.ensures a.list.now c.requires.list_sized
+pub loop-next-init : goal.loop-next-init
+loop-next-init c =
+    let a = c.args.asked.now in
+    record {
+      listed = listed_first a c.args.low.0 c.args.latest.0 (minute_or (suc c.args.latest.0) c.ok-next.result) (first_or (goal.at.loop-next-init c).After-ok-next) c.args.list.now c.requires.list_sized;
+      in_window = λ m e. start_found a c.args.low.0 c.args.latest.0 m (sym (first_is (goal.at.loop-next-init c).After-ok-next) ∙ e);
+    }
 
 pub run_end-end-requires : goal.run_end-end-requires
 run_end-end-requires c =
-    let a = c.args in
-    let p = c.requires.askable in
-    let l = c.loop-start in
-    let first = c.first_start-start in
-    let inside : l.start ≤ a.latest.0 = omega (arith, c.loop-start-test.true) in
-    record { askable = askable_part p l.start a.latest.0 (start_after (graph a.search.ends) (carries (kept a.events.now a.free.now) a.search.bandwidth.0 a.search.span.0) a.search.source a.search.destination a.low.0 a.latest.0 first.result first.ensures l.list l.count l.start l.invariant inside) (le_refl _); in_window = inside; possible = start_passes (graph a.search.ends) (carries (kept a.events.now a.free.now) a.search.bandwidth.0 a.search.span.0) a.search.source a.search.destination a.low.0 a.latest.0 first.result first.ensures l.list l.count l.start l.invariant inside }
-
-pub overflow_cast-place : goal.overflow_cast-place
-overflow_cast-place c = omega (arith, room (goal.at.overflow_cast-place c).After-run_end-end)
-
-pub overflow_mul-place : goal.overflow_mul-place
-overflow_mul-place c = omega (arith, room (goal.at.overflow_mul-place c).After-run_end-end)
-
-pub offset_bounds-list-place : goal.offset_bounds-list-place
-offset_bounds-list-place c = omega (arith, room (goal.at.offset_bounds-list-place c).After-run_end-end)
+    let start = looked_at (goal.at.run_end-end-requires c).In-Some in
+    record { askable = askable_part c.requires.askable c.in-Some.start.0 c.args.latest.0 start.0 (le_refl _); in_window = start.1; possible = start.2 }
 
 pub bounds-list-place : goal.bounds-list-place
-bounds-list-place c = let size = c.loop-start.invariant.sized in omega (arith, room (goal.at.bounds-list-place c).After-run_end-end)
+bounds-list-place c = omega (arith, room (goal.at.bounds-list-place c).After-run_end-end, c.loop-next.invariant.listed.sized)
 
-pub overflow_sub-list : goal.overflow_sub-list
-overflow_sub-list c = let r = c.run_end-end.ensures in omega (arith, r.after)
+pub bounds-list-place-in-Some : goal.bounds-list-place-in-Some
+bounds-list-place-in-Some c = simp length-set (omega (arith, room (goal.at.bounds-list-place-in-Some c).After-run_end-end, c.loop-next.invariant.listed.sized))
 
-pub overflow_add-list : goal.overflow_add-list
-overflow_add-list c = omega (arith, room (goal.at.overflow_add-list c).After-run_end-end)
+pub next_start-next-requires-clause-askable : goal.next_start-next-requires-clause-askable
+next_start-next-requires-clause-askable c =
+    askable_part c.requires.askable c.run_end-end.result.0 c.args.latest.0 (omega (arith, looked_at (goal.at.next_start-next-requires-clause-askable c).In-Some, c.run_end-end.ensures.after)) (le_refl _)
 
-pub offset_bounds-list-place-in-loop-start : goal.offset_bounds-list-place-in-loop-start
-offset_bounds-list-place-in-loop-start c = omega (arith, room (goal.at.offset_bounds-list-place-in-loop-start c).After-run_end-end)
+pub loop-next-smaller : goal.loop-next-smaller
+loop-next-smaller c =
+    let at = goal.at.loop-next-smaller c in
+    omega (arith, looked_at at.In-Some, ap (minute_or (suc c.args.latest.0)) c.in-Some.is, c.run_end-end.ensures.after, (following at.After-next_start-next).not_before)
 
-pub bounds-list-place-in-loop-start : goal.bounds-list-place-in-loop-start
-bounds-list-place-in-loop-start c = let size = c.loop-start.invariant.sized in simp length-set (omega (arith, room (goal.at.bounds-list-place-in-loop-start c).After-run_end-end))
-
-pub overflow_add-count : goal.overflow_add-count
-overflow_add-count c = omega (arith, room (goal.at.overflow_add-count c).After-run_end-end)
-
-pub next_start-start-requires : goal.next_start-start-requires
-next_start-start-requires c =
-    let a = c.args in
-    let p = c.requires.askable in
-    let l = c.loop-start in
-    let first = c.first_start-start in
-    let r = c.run_end-end in
-    let inside : l.start ≤ a.latest.0 = omega (arith, c.loop-start-test.true) in
-    record { askable = askable_part p r.result a.latest.0 (let early = start_after (graph a.search.ends) (carries (kept a.events.now a.free.now) a.search.bandwidth.0 a.search.span.0) a.search.source a.search.destination a.low.0 a.latest.0 first.result first.ensures l.list l.count l.start l.invariant inside in omega (arith, r.ensures.after)) (le_refl _); end_impossible = λ within. r.ensures.stops (omega arith) }
-
-pub loop-start-smaller : goal.loop-start-smaller
-loop-start-smaller c =
-    let a = c.args in
-    let p = c.requires.askable in
-    let l = c.loop-start in
-    let first = c.first_start-start in
-    let r = c.run_end-end in
-    let n = next_start (graph a.search.ends) (carries (kept a.events.now a.free.now) a.search.bandwidth.0 a.search.span.0) a.search.source a.search.destination r.result a.latest.0 c.next_start-start.result r.ensures.not_past c.next_start-start.ensures in
-    omega (arith, r.ensures.after, n.not_before, c.loop-start-test.true)
-
-pub loop-start-preserved : goal.loop-start-preserved
-loop-start-preserved c =
-    let a = c.args in
-    let p = c.requires.askable in
-    let l = c.loop-start in
-    let first = c.first_start-start in
-    let r = c.run_end-end in
-    let n = next_start (graph a.search.ends) (carries (kept a.events.now a.free.now) a.search.bandwidth.0 a.search.span.0) a.search.source a.search.destination r.result a.latest.0 c.next_start-start.result r.ensures.not_past c.next_start-start.ensures in
-    listed_next (graph a.search.ends) (carries (kept a.events.now a.free.now) a.search.bandwidth.0 a.search.span.0) a.search.source a.search.destination a.low.0 a.latest.0 first.result first.ensures l.list l.count l.start l.invariant (omega (arith, c.loop-start-test.true)) r.result r.ensures c.next_start-start.result n (room (goal.at.loop-start-preserved c).After-run_end-end)
-
-pub overflow_cast-count : goal.overflow_cast-count
-overflow_cast-count c = let l = c.loop-start.invariant in omega (arith, l.room)
-
-pub overflow_mul-count : goal.overflow_mul-count
-overflow_mul-count c = let l = c.loop-start.invariant in omega (arith, l.room)
-
-pub clear_from-requires : goal.clear_from-requires
-clear_from-requires c = let l = c.loop-start.invariant in omega (arith, l.room, l.sized)
-
-pub shape_of-list : goal.shape_of-list
-shape_of-list c = c.clear_from.auto.table ∙ c.loop-start.invariant.sized ∙ sym c.requires.list_sized
+pub loop-next-preserved : goal.loop-next-preserved
+loop-next-preserved c =
+    let at = goal.at.loop-next-preserved c in
+    let a = c.args.asked.now in
+    record {
+      listed = listed_next a c.args.low.0 c.args.latest.0 (minute_or (suc c.args.latest.0) c.ok-next.result) (first_or at.After-ok-next) c.loop-next.list c.loop-next.count c.in-Some.start.0 (listed_to at.In-Some) (looked_at at.In-Some).1
+          c.run_end-end.result.0 c.run_end-end.ensures (minute_or (suc c.args.latest.0) c.next_start-next.result) (following at.After-next_start-next) (room at.After-run_end-end);
+      in_window = λ m e. let found = start_found a c.run_end-end.result.0 c.args.latest.0 m (sym c.next_start-next.ensures ∙ e) in (omega (arith, looked_at at.In-Some, c.run_end-end.ensures.after, found), found.1, found.2);
+    }
 
 pub returns : goal.returns
 returns c =
-    let a = c.args in
-    let p = c.requires.askable in
-    let l = c.loop-start in
-    let first = c.first_start-start in
-    let outside : a.latest.0 < l.start = omega (arith, c.loop-start-test.false) in
-    (all_counted (graph a.search.ends) (carries (kept a.events.now a.free.now) a.search.bandwidth.0 a.search.span.0) a.search.source a.search.destination a.low.0 a.latest.0 first.result first.ensures l.list l.count l.start l.invariant outside, c.clear_from.ensures ∙ all_written (graph a.search.ends) (carries (kept a.events.now a.free.now) a.search.bandwidth.0 a.search.span.0) a.search.source a.search.destination a.low.0 a.latest.0 first.result first.ensures l.list l.count l.start l.invariant outside)
+    let at = (goal.at.returns c).After-ok-next in
+    let l = c.loop-next in
+    let a = c.args.asked.now in
+    let none_left : minute_or (suc c.args.latest.0) l.next ≡ suc c.args.latest.0 = ap (minute_or (suc c.args.latest.0)) c.in_default.is in
+    let outside : c.args.latest.0 < minute_or (suc c.args.latest.0) l.next = omega arith in
+    let first = minute_or (suc c.args.latest.0) c.ok-next.result in
+    let next = minute_or (suc c.args.latest.0) l.next in
+    let size = l.invariant.listed.sized in
+    let room = l.invariant.listed.room in
+    let rest : length (take (length l.list - l.count * 2) (drop (l.count * 2) l.list)) ≡ length l.list - l.count * 2 = search rules in
+    let zeros : c.fill.new.self ≡ replicate (length l.list - l.count * 2) 0 = c.fill.ensures.after (λ y h. search rules) ∙ ap (λ n. replicate n 0) rest in
+    let whole : put_mid (l.count * 2) (length l.list - l.count * 2) l.list c.fill.new.self ≡ take (l.count * 2) l.list ++ c.fill.new.self = search (rules, overwrites) in
+    record {
+      count = all_counted a c.args.low.0 c.args.latest.0 first (first_or at) l.list l.count next l.invariant.listed outside;
+      written = whole ∙ ap (λ z. take (l.count * 2) l.list ++ z) zeros ∙ all_written a c.args.low.0 c.args.latest.0 first (first_or at) l.list l.count next l.invariant.listed outside;
+    }

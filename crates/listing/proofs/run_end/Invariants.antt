@@ -1,15 +1,8 @@
 -- run_end meets its contract. The minutes up to one whose span ends before `end` are possible, and the events at the places
--- below `place` lie before it.
-use Prim.Native.Nat.{◌-◌, ◌≤◌}
-use lib.ListN.{length}
-use Rattle.choice.specs.Answer.{possible_for}
+-- below the loop's lie before it.
+use Rattle.choice.specs.Answer.{possible_of}
 use Rattle.listing.proofs.Runs.{RunTo}
 use Rattle.listing.proofs.run_end.Given as goal
 
--- the loop knows start by the end of its span
-abbrev pub invariant-loop-place : goal.invariant-loop-place
-invariant-loop-place l =
-    (l.place ≤ length l.events) × RunTo (possible_for l.search l.events l.free) l.events l.search.span.0 (l.initial.end - l.search.span.0) l.latest.0 l.end l.place
-
-abbrev pub decreases-loop-place : goal.decreases-loop-place
-decreases-loop-place l = length l.events - l.place
+abbrev pub invariant-loop-event : goal.invariant-loop-event
+invariant-loop-event l = RunTo (possible_of l.asked) l.asked.table.events.now l.span.0 l.fn.start.0 l.latest.0 l.end l.event-index

@@ -10,6 +10,7 @@ use Rattle.units.specs.declared.Link.{Link}
 use Rattle.units.specs.Limits.{most_links, most_events}
 use Rattle.timeline.specs.EventTable.{only_clock}
 use Rattle.free_table.specs.Figures.{all_free}
+use Rattle.free_table.proofs.Tables.{all_free_part}
 use Rattle.rebuild.specs.Rebuilding.{CanRebuild}
 use Rattle.rebuild.proofs.Rebuilt.{Rebuilt, from_place, from_first, rebuilt_none, place_sizes, place_asks, place_gives}
 use Rattle.rebuild.proofs.rebuild.Goals as goal
@@ -23,7 +24,7 @@ at_place c =
     c.loop-place.invariant a.links.now a.events.now a.free.now c.requires
     (rebuilt_none a.links.now a.head a.book.now c.requires.few_links _ _
     (c.reset_events.ensures ∙ ap (λ n. only_clock n a.head.clock.0) c.requires.events_sized)
-    (c.reset_free.ensures ∙ ap₂ (λ n column. all_free n (length a.links.now) column) c.requires.free_sized capacities))
+    (c.reset_free.ensures ∙ all_free_part _ (length a.links.now) _ ∙ ap₂ (λ n column. all_free n (length a.links.now) column) c.requires.free_sized capacities))
 
 -- the tables have their sizes still
 sizes : (c : At-loop-place) → (length c.loop-place.events ≡ most_events) × (length c.loop-place.free ≡ most_events * most_links)

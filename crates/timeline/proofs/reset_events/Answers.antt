@@ -1,8 +1,12 @@
 -- `reset_events` meets its contract: the clock is written over the first zero.
-use Rattle.std.proofs.Common.{length, slice_set, ap, ◌∙◌}
+use Rattle.std.proofs.Common.{◌≡◌, ℕ, zero, suc, ◌-◌, ◌<◌, ◌∷◌, length, replicate, slice_set, refl, ap, ◌∙◌, arith}
+use native.Mathlib.Numerals.{sub-one}
 use Rattle.timeline.specs.EventTable.{only_clock}
-use Rattle.timeline.proofs.Single.{clock_alone}
 use Rattle.timeline.proofs.reset_events.Goals as goal
+
+clock_alone : (clock places : ℕ) → 0 < places → slice_set (replicate places 0) 0 clock ≡ clock ∷ replicate (places - 1) 0
+clock_alone clock zero h = absurd (omega arith)
+clock_alone clock (suc n) h = rw sub-one refl
 
 pub returns : goal.returns
 unfolding only_clock
