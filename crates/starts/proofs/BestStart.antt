@@ -1,8 +1,9 @@
 -- On fine tables the chooser may be asked, and what it answers is the plain book's best start; so are the ranges listed.
-use mathlib.Core.Path.{◌≡◌, sym, ◌∙◌, ap, ap₂}
+use mathlib.Core.List.{List}
+use mathlib.Core.Path.{◌≡◌, refl, sym, ◌∙◌, ap, ap₂}
 use Prim.Native.Nat.{ℕ, ◌≤◌, ◌<◌}
 use native.Mathlib.Omega.{arith}
-use lib.ListN.{length}
+use lib.ListN.{length, get_or}
 use Rattle.std.proofs.Common.{Ok, Err}
 use Rattle.units.specs.declared.Minute.{Minute}
 use Rattle.units.specs.declared.Refusal.{Refusal}
@@ -24,26 +25,30 @@ use Rattle.choice.proofs.Answers.{started, none_started}
 use Rattle.choice.proofs.EventTables.{are_events}
 use Rattle.listing.specs.Ranges.{ranges_for}
 use Rattle.listing.proofs.Laws.{ranges_agree}
-use Rattle.units.specs.declared.LinkTable.{LinkTable}
-use Rattle.rules.specs.Plain.{graph, free, carries, low}
+use Rattle.units.specs.declared.Link.{Link}
+use Rattle.units.specs.Columns.{column}
+use Rattle.units.proofs.Columns.{column_at}
+use Rattle.rules.specs.Plain.{no_link, link, graph, free, carries, low}
 use Rattle.rules.specs.Calls.{starts, refuse, best, every, chosen as desk_chosen}
 use Rattle.rules.specs.Tables.{Tables, events_of, held, Fine}
-use Rattle.units.specs.LinkTables.{links_of}
-use Rattle.starts.specs.Asked.{ends_of, search_of, Asks}
+use Rattle.starts.specs.Asked.{begins, ends, ends_of, search_of, Asks}
 use Rattle.rules.proofs.Uses.{all_times, free_changes}
 use Rattle.rules.proofs.Tests.{RequestRight, link_right}
 use Rattle.rules.proofs.Fine.{sizes, book_obeys, events_are, free_are}
-use Rattle.rules.proofs.LinkColumns.{links_count, from_column, to_column}
 
-module _ (links : LinkTable) (t : Tables) (f : Fine (links_of links) t) where
-  pub few_links : links.count ≤ most_links
-  few_links = rw (← (links_count links)) (sizes f).links_right.1
+module _ (links : List Link) (t : Tables) (f : Fine links t) where
+  few_links : length links ≤ most_links
+  few_links = (sizes f).links_right.1
 
-  ends_in_range : InRange links.count links.from links.to
+  -- below the last link a column has the field of the link
+  field : (read : Link → ℕ) (l : ℕ) → l < length links → get_or (column read links) l 0 ≡ read (link links l)
+  field read l h = column_at read links l no_link (omega (arith, few_links)) h
+
+  ends_in_range : InRange (length links) (begins links) (ends links)
   ends_in_range = record {
     few = few_links;
-    from_node = λ l h. rw (← (from_column links l h)) (link_right (links_of links) (book_obeys f).links_right l (rw (links_count links) h)).from_right;
-    to_node = λ l h. rw (← (to_column links l h)) (link_right (links_of links) (book_obeys f).links_right l (rw (links_count links) h)).to_right;
+    from_node = λ l h. rw (field (λ x. x.from) l h) (link_right links (book_obeys f).links_right l h).from_right;
+    to_node = λ l h. rw (field (λ x. x.to) l h) (link_right links (book_obeys f).links_right l h).to_right;
   }
 
   pub tables_sized : TablesSized t.events t.free
@@ -54,9 +59,10 @@ module _ (links : LinkTable) (t : Tables) (f : Fine (links_of links) t) where
   shown_events = events_are f ∙ ap (λ n. padded n (events_of (held t))) (sym (sizes f).events_right)
 
   module _ (r : Request) (q : RequestRight r) where
-    pub best_asks : Asks t.head links t.events r
+    pub best_asks : Asks links t r
     best_asks = record {
       in_range = ends_in_range;
+      sized = tables_sized;
       lasts = q.duration_right.0;
       are_events = are_events t.events t.head.clock.0 (all_times (held t)) shown_events;
       askable = record { not_past = omega (arith, ap clock_of shown_events); in_time = omega (arith, q.duration_right.1, q.latest_right) };
@@ -68,32 +74,32 @@ module _ (links : LinkTable) (t : Tables) (f : Fine (links_of links) t) where
 
     -- the choice by the plain book
     abbrev pub by_book : Choice Grant
-    by_book = choose (graph (links_of links)) (carries (links_of links) (held t) r) r.from r.to (low (held t) r) r.latest.0
+    by_book = choose (graph links) (carries links (held t) r) r.from r.to (low (held t) r) r.latest.0
 
     -- the links, and what they carry from low on, are the same
     agree : (m : ℕ) → low (held t) r ≤ m → m ≤ r.latest.0
-        → Agree (ends_of links) (graph (links_of links)) (answers.carried (search_of t.head links r) t.events t.free m) (carries (links_of links) (held t) r m)
+        → Agree (ends_of links) (graph links) (answers.carried (search_of t.head links r) t.events t.free m) (carries links (held t) r m)
     agree m a b = record {
-      count = sym (links_count links);
-      from = λ l h. sym (from_column links l h);
-      to = λ l h. sym (to_column links l h);
-      usable = λ l h. usable_same m l (omega arith) (rw (links_count links) h);
+      count = refl;
+      from = λ l h. field (λ x. x.from) l h;
+      to = λ l h. field (λ x. x.to) l h;
+      usable = λ l h. usable_same m l (omega arith) h;
     }
       where
-        usable_same : (m l : ℕ) → t.head.clock.0 ≤ m → l < length (links_of links) → answers.carried (search_of t.head links r) t.events t.free m l ≡ carries (links_of links) (held t) r m l
+        usable_same : (m l : ℕ) → t.head.clock.0 ≤ m → l < length links → answers.carried (search_of t.head links r) t.events t.free m l ≡ carries links (held t) r m l
         usable_same m l a h =
             ap₂ (λ es fr. answers.carried (search_of t.head links r) es fr m l) (events_are f) (free_are f)
-            ∙ carries_shown most_events (length (links_of links)) (free (links_of links) (held t)) (sizes f).links_right.1 t.head.clock.0 (all_times (held t)) (λ k j. free_changes (links_of links) (held t) k) r.bandwidth.0 (span_of t.head r.duration.0) m l a h
+            ∙ carries_shown most_events (length links) (free links (held t)) (sizes f).links_right.1 t.head.clock.0 (all_times (held t)) (λ k j. free_changes links (held t) k) r.bandwidth.0 (span_of t.head r.duration.0) m l a h
 
     pub same_choice : by_tables ≡ by_book
     same_choice =
-        choose_agree (ends_of links) (graph (links_of links)) (answers.carried (search_of t.head links r) t.events t.free) (carries (links_of links) (held t) r) r.from r.to (low (held t) r) r.latest.0 agree
+        choose_agree (ends_of links) (graph links) (answers.carried (search_of t.head links r) t.events t.free) (carries links (held t) r) r.from r.to (low (held t) r) r.latest.0 agree
 
     -- the ranges by the tables are those by the plain book
-    pub same_ranges : ranges_for (search_of t.head links r) t.events t.free (low (held t) r) r.latest.0 ≡ every (links_of links) (held t) r
+    pub same_ranges : ranges_for (search_of t.head links r) t.events t.free (low (held t) r) r.latest.0 ≡ every links (held t) r
     unfolding every
     same_ranges =
-        ranges_agree (ends_of links) (graph (links_of links)) (answers.carried (search_of t.head links r) t.events t.free) (carries (links_of links) (held t) r) r.from r.to (low (held t) r) r.latest.0 agree
+        ranges_agree (ends_of links) (graph links) (answers.carried (search_of t.head links r) t.events t.free) (carries links (held t) r) r.from r.to (low (held t) r) r.latest.0 agree
 
     -- a start that the chooser answers is the plain book's grant, with its path
     pub record Started (start : Minute) (path : Path) : Type 0 where
@@ -111,10 +117,10 @@ module _ (links : LinkTable) (t : Tables) (f : Fine (links_of links) t) where
     chosen_none a e k s = sym same_choice ∙ none_started by_tables a e k s
 
     -- what the plain book answers then
-    pub best_starts : (g : Grant) → by_book ≡ granted g → best (links_of links) (held t) r ≡ starts g
+    pub best_starts : (g : Grant) → by_book ≡ granted g → best links (held t) r ≡ starts g
     unfolding best
     best_starts g e = ap desk_chosen e
 
-    pub best_none : by_book ≡ no_start → best (links_of links) (held t) r ≡ refuse 8
+    pub best_none : by_book ≡ no_start → best links (held t) r ≡ refuse 8
     unfolding best
     best_none e = ap desk_chosen e

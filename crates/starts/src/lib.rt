@@ -5,29 +5,32 @@
 ghost use Rattle.std.specs.Prelude.{◌≡◌, ◌≤◌, length};
 ghost use Rattle.units.specs.Limits.{last_shown, most_ranges, list_size};
 ghost use Rattle.units.specs.Spans.{low_of, span_of};
+ghost use Rattle.units.specs.Columns.{column};
 ghost use Rattle.path_search.specs.Ends.{InRange};
 ghost use Rattle.choice.specs.Answer.{wanted, choice_for, chosen};
 ghost use Rattle.listing.specs.Ranges.{ranges_for, list_table};
+ghost use Rattle.lent.specs.Lent.{tables_in};
 ghost use Rattle.starts.specs.Asked.{search_of, Asks};
 
 use choice::{Asked, Chosen, Search};
 use free_table::FreeTable;
+use lent::LentTables;
 use listing::list_ranges;
 use path_search::LinkEnds;
-use units::{Duration, Head, LinkTable, Request, low_minute, span_of};
+use units::{Duration, Head, Link, Request, column, low_minute, span_of};
 
 // What a request asks of any start on these links.
-fn search_of(head: Head, links: LinkTable, request: Request) -> Search
-    requires in_range { InRange links.count links.from links.to }
+fn search_of(head: Head, links: &[Link], request: Request) -> Search
+    requires in_range { InRange (length links.now) (column (λ l. l.from) links.now) (column (λ l. l.to) links.now) }
     requires lasts { 1 ≤ span_of head request.duration.0 }
     requires fits { span_of head request.duration.0 ≤ last_shown }
-    ensures { wanted result ≡ search_of head links request }
+    ensures { wanted result ≡ search_of head links.now request }
 {
-    let from = links.from;
-    let to = links.to;
+    let from = column(links, |link| link.from);
+    let to = column(links, |link| link.to);
     Search {
         ends: LinkEnds {
-            count: links.count,
+            count: links.len(),
             from,
             to,
         },
@@ -39,12 +42,16 @@ fn search_of(head: Head, links: LinkTable, request: Request) -> Search
 }
 
 // The earliest start of a request's window, with its path.
-pub fn best_start(head: Head, links: LinkTable, table: FreeTable, request: Request) -> Chosen
-    requires { Asks head links table.events.now request }
-    ensures { result ≡ chosen (choice_for (search_of head links request) table.entry.events.now table.entry.figures.now (low_of head request) request.latest.0) }
+pub fn best_start(tables: &LentTables<'_>, request: Request) -> Chosen
+    requires { Asks tables.now.links.now (tables_in tables.now) request }
+    ensures { result ≡ chosen (choice_for (search_of tables.now.head tables.now.links.now request) tables.now.events.now tables.now.free.now (low_of tables.now.head request) request.latest.0) }
 {
-    let low = low_minute(head, request);
-    let search = search_of(head, links, request);
+    let low = low_minute(tables.head, request);
+    let search = search_of(tables.head, tables.links, request);
+    let table = FreeTable {
+        events: tables.events,
+        figures: tables.free,
+    };
     let asked = Asked {
         search: &search,
         table,
@@ -53,21 +60,19 @@ pub fn best_start(head: Head, links: LinkTable, table: FreeTable, request: Reque
 }
 
 // Every start of a request's window, written as ranges into the list; how many ranges there are.
-pub fn all_starts(
-    head: Head,
-    links: LinkTable,
-    table: FreeTable,
-    request: Request,
-    list: &mut [u32],
-) -> u32
-    requires asks { Asks head links table.events.now request }
-    requires events_fit { length table.events.now ≤ most_ranges }
+pub fn all_starts(tables: &LentTables<'_>, request: Request, list: &mut [u32]) -> u32
+    requires asks { Asks tables.now.links.now (tables_in tables.now) request }
+    requires events_fit { length tables.now.events.now ≤ most_ranges }
     requires list_sized { length list.old ≡ list_size }
-    ensures count { result ≡ length (ranges_for (search_of head links request) table.entry.events.now table.entry.figures.now (low_of head request) request.latest.0) }
-    ensures written { list.new ≡ list_table (ranges_for (search_of head links request) table.entry.events.now table.entry.figures.now (low_of head request) request.latest.0) }
+    ensures count { result ≡ length (ranges_for (search_of tables.now.head tables.now.links.now request) tables.now.events.now tables.now.free.now (low_of tables.now.head request) request.latest.0) }
+    ensures written { list.new ≡ list_table (ranges_for (search_of tables.now.head tables.now.links.now request) tables.now.events.now tables.now.free.now (low_of tables.now.head request) request.latest.0) }
 {
-    let low = low_minute(head, request);
-    let search = search_of(head, links, request);
+    let low = low_minute(tables.head, request);
+    let search = search_of(tables.head, tables.links, request);
+    let table = FreeTable {
+        events: tables.events,
+        figures: tables.free,
+    };
     let asked = Asked {
         search: &search,
         table,
