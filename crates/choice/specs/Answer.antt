@@ -13,6 +13,7 @@ use Rattle.path_search.specs.Answer.{graph, path_of}
 use Rattle.choice.specs.Carrying.{carries}
 use Rattle.choice.specs.EventTables.{clock_of}
 use Rattle.choice.specs.declared.Chosen.{Chosen}
+use Rattle.choice.specs.declared.Granted.{Granted}
 use Rattle.choice.specs.declared.ChoiceRecord.{ChoiceRecord}
 use Rattle.choice.specs.declared.search.Search.{Search}
 use Rattle.choice.specs.declared.asked.Asked.{Asked}
@@ -82,3 +83,8 @@ values_of (Err refused) path = record { refusal = number refused; start = record
 -- and of an answer: 'on refusal start and path are zero'
 abbrev pub values : Chosen → ChoiceRecord
 values r = values_of r.choice r.path
+
+-- the same of a start that is granted, or its refusal
+abbrev pub granted_values : Result Granted Refusal → ChoiceRecord
+granted_values (Ok given) = record { refusal = 0; start = given.start; path = given.path }
+granted_values (Err refused) = record { refusal = number refused; start = record { 0 = 0 }; path = path_of [] }

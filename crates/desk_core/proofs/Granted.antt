@@ -1,4 +1,5 @@
 -- On fine tables what the chooser answers is the plain book's best start: as it is handed out, and as it is entered.
+use mathlib.Core.List.{List}
 use mathlib.Core.Path.{◌≡◌, refl, sym, ◌∙◌, ap}
 use mathlib.Core.Bool.{false, and-eq-true_iff}
 use borrow.Author.Tests.{not-true, ltb-true}
@@ -15,11 +16,10 @@ use Rattle.path_search.specs.Answer as search
 use Rattle.choice.specs.declared.Chosen.{Chosen}
 use Rattle.choice.specs.Choice.{Grant, Choice, granted, no_start}
 use Rattle.choice.specs.Answer as answers
-use Rattle.units.specs.declared.LinkTable.{LinkTable}
+use Rattle.units.specs.declared.Link.{Link}
 use Rattle.rules.specs.Plain.{Booking, terms}
 use Rattle.rules.specs.Calls.{Ask, best, stands, number_ok, request_ok, own_checks, chosen as desk_chosen}
 use Rattle.rules.specs.Tables.{Tables, held, Fine}
-use Rattle.units.specs.LinkTables.{links_of}
 use Rattle.starts.proofs.BestStart.{by_tables, same_choice, Started}
 use Rattle.desk_core.specs.Lent as words
 use Rattle.changes.specs.Updating.{booked, Grantable}
@@ -29,9 +29,9 @@ use Rattle.rules.proofs.Step.{obeys_booked}
 use Rattle.rules.proofs.Tests.{RequestRight}
 use Rattle.rules.proofs.Fine.{book_obeys}
 
-module _ (links : LinkTable) (t : Tables) (f : Fine (links_of links) t) (r : Request) (q : RequestRight r) where
+module _ (links : List Link) (t : Tables) (f : Fine links t) (r : Request) (q : RequestRight r) where
   -- the record of the choice
-  pub told : (a : Chosen) → a ≡ answers.chosen (by_tables links t f r q) → answers.values a ≡ words.choice_shown (best (links_of links) (held t) r)
+  pub told : (a : Chosen) → a ≡ answers.chosen (by_tables links t f r q) → answers.values a ≡ words.choice_shown (best links (held t) r)
   unfolding best
   told a e = ap (λ x. answers.values x) e ∙ by (by_tables links t f r q) ∙ ap (λ c. words.choice_shown (desk_chosen c)) (same_choice links t f r q)
     where
@@ -44,8 +44,8 @@ module _ (links : LinkTable) (t : Tables) (f : Fine (links_of links) t) (r : Req
     abbrev pub booking : Booking
     booking = record { number = number; terms = terms r; grant = s.grant }
 
-    good : GoodGrant (links_of links) (held t) r (book_obeys f).links_right q s.grant
-    good = good_best (links_of links) (held t) r (book_obeys f).links_right q s.grant s.is_best
+    good : GoodGrant links (held t) r (book_obeys f).links_right q s.grant
+    good = good_best links (held t) r (book_obeys f).links_right q s.grant s.is_best
 
     short : length s.grant.path ≤ most_hops
     short = good.is_path.length_right.1
@@ -56,9 +56,9 @@ module _ (links : LinkTable) (t : Tables) (f : Fine (links_of links) t) (r : Req
     pub booked_is : booked number r start path ≡ booking
     booked_is = λ i. record { number = number; terms = terms r; grant = record { start = (s.start_is i).0; path = path_kept i } }
 
-    pub grantable : Passed (own_checks (links_of links) (held t) (Ask.book number r)) → Grantable (links_of links) (held t) number r start path
+    pub grantable : Passed (own_checks links (held t) (Ask.book number r)) → Grantable links (held t) number r start path
     grantable checks = record {
-      booking_right = rw booked_is (obeys_booked (links_of links) (held t) (book_obeys f) number r q in_range_number new room s.grant good).bookings_right.0;
+      booking_right = rw booked_is (obeys_booked links (held t) (book_obeys f) number r q in_range_number new room s.grant good).bookings_right.0;
       path_is = s.path_is ∙ ap search.path_of (sym path_kept);
       room = room;
     }

@@ -1,6 +1,9 @@
 -- What the contracts of the seven calls say: the answer and the tables as they are handed back, from the one outcome.
-use Rattle.std.specs.Prelude.{List, ℕ}
+use Rattle.std.specs.Prelude.{List, ℕ, Result, Ok, Err}
 use Rattle.units.specs.declared.Link.{Link}
+use Rattle.units.specs.declared.Bandwidth.{Bandwidth}
+use Rattle.units.specs.declared.Refusal.{Refusal}
+use Rattle.units.specs.Refusals.{number}
 use Rattle.choice.specs.declared.ChoiceRecord.{ChoiceRecord}
 use Rattle.listing.specs.Ranges.{list_table}
 use Rattle.desk_core.specs.declared.Shown.{Shown}
@@ -26,6 +29,15 @@ list_left (refused r) old = old
 
 abbrev pub shown : Answer → Shown
 shown a = record { refusal = (values a).number; free = record { 0 = (values a).figure } }
+
+-- a listing that is answered, and a showing, as they are handed out
+abbrev pub listed_values : Result ℕ Refusal → Listed
+listed_values (Ok count) = record { refusal = 0; count = count }
+listed_values (Err refusal) = record { refusal = number refusal; count = 0 }
+
+abbrev pub shown_values : Result Bandwidth Refusal → Shown
+shown_values (Ok free) = record { refusal = 0; free = free }
+shown_values (Err refusal) = record { refusal = number refusal; free = record { 0 = 0 } }
 
 module _ (links : List Link) (t : Tables) (c : Call) where
   unfoldable pub choice_answer : ChoiceRecord

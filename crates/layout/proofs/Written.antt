@@ -11,8 +11,8 @@ use borrow.Author.Tests.{eqb-true, eq-eqb, ne_eqb}
 use Rattle.std.specs.Prelude.{Result, Ok, Err, is_ok}
 use Rattle.units.specs.declared.Link.{Link}
 use Rattle.units.specs.declared.Refusal.{Refusal}
-use Rattle.units.specs.declared.Refusal.TheVariants.{BadSize, BadLink, Unsound, BadField, TooLate, NumberStands, BookFull, NoStart, NotStanding, ClockBack, BadBits, BadLength, BadList}
 use Rattle.units.specs.Refusals.{number, number_of}
+use Rattle.units.proofs.Refusals.{numbered}
 use Rattle.layout.specs.declared.OrderForm.{OrderForm}
 use Rattle.layout.specs.Layout.{pack, fits, spelled, order_widths, link_widths}
 use Rattle.layout.specs.Records.{if_passed, order_from}
@@ -22,22 +22,6 @@ use Rattle.layout.specs.Forms.{tellable, form_fields, order_figures, form_fits, 
 passed : (t : Bool) (x k : ℕ) → k ≢ 0 → if_passed t x k ≡ 0 → (t ≡ true) × (x ≡ 0)
 passed true x k n e = (refl, e)
 passed false x k n e = absurd (n e)
-
--- no refusal has the number of an accepted call
-numbered : (refusal : Refusal) → number refusal ≢ 0
-numbered BadSize z = omega arith
-numbered BadLink z = omega arith
-numbered Unsound z = omega arith
-numbered BadField z = omega arith
-numbered TooLate z = omega arith
-numbered NumberStands z = omega arith
-numbered BookFull z = omega arith
-numbered NoStart z = omega arith
-numbered NotStanding z = omega arith
-numbered ClockBack z = omega arith
-numbered BadBits z = omega arith
-numbered BadLength z = omega arith
-numbered BadList z = omega arith
 
 -- what a check that answers this number found
 module _ {A : Type 0} {r : Result A Refusal} {k : ℕ} (e : number_of r ≡ k) where

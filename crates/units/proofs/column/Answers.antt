@@ -1,9 +1,9 @@
 -- Each link that is read puts its field at its place, and the links past the 64th do not count.
-use Rattle.std.proofs.Common.{rules, ◌≡◌, refl, ◌∙◌, ap, arith, take, length}
+use Rattle.std.proofs.Common.{refl, ◌∙◌, ap, arith, take}
 use Rattle.std.proofs.lemmas.Fn.{says_at}
 use native.Mathlib.Numerals.{add-one}
 use lib.ListN.{length-take}
-use lib.Seq.{take-length, take_all}
+use lib.Seq.{take_all}
 use Rattle.units.specs.Columns.{column}
 use Rattle.units.proofs.Columns.{column_step, column_end}
 use Rattle.units.proofs.column.Goals as goal

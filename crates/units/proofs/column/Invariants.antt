@@ -1,5 +1,5 @@
 -- The first i links have their field in the column.
-use Rattle.std.proofs.Common.{◌≡◌, ◌≤◌, ℕ, take, length}
+use Rattle.std.proofs.Common.{◌≡◌, ℕ, take}
 use Rattle.units.specs.declared.Link.{Link}
 use Rattle.units.specs.Columns.{column, Reads}
 use Rattle.units.proofs.column.Given as goal
