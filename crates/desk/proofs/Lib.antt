@@ -1,2 +1,0 @@
--- Laws of what the contracts of the calls cite: the links as columns.
-pub mod Laws
