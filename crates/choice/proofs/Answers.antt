@@ -1,29 +1,23 @@
 -- An answer of the chooser taken apart: a start is the choice's grant, and a refusal says that there is none.
-use mathlib.Core.Path.{◌≡◌, refl, sym, ◌∙◌, ap}
+use mathlib.Core.Path.{◌≡◌, refl}
 use Prim.Native.Nat.{ℕ}
 use native.Mathlib.Omega.{arith}
-use Rattle.std.proofs.Common.{Result, Ok, Err}
-use Rattle.units.specs.declared.Minute.{Minute}
+use Rattle.std.proofs.Common.{Ok, Err}
 use Rattle.units.specs.declared.Refusal.{Refusal}
-use Rattle.units.specs.declared.Refusal.TheVariants.{NoStart}
-use Rattle.path_search.specs.declared.Path.{Path}
 use Rattle.path_search.specs.Answer.{path_of}
-use Rattle.choice.specs.declared.Chosen.{Chosen}
+use Rattle.choice.specs.declared.Granted.{Granted}
 use Rattle.choice.specs.Choice.{Grant, Choice, granted, no_start}
 use Rattle.choice.specs.Answer.{chosen}
 
-pub record Started (c : Choice Grant) (start : Minute) (path : Path) : Type 0 where
+pub record Started (c : Choice Grant) (given : Granted) : Type 0 where
   pub grant : Grant
   pub is_granted : c ≡ granted grant
-  pub start_is : start ≡ record { 0 = grant.start }
-  pub path_is : path ≡ path_of grant.path
+  pub given_is : given ≡ record { start = record { 0 = grant.start }; path = path_of grant.path }
 
-pub started : (c : Choice Grant) (a : Chosen) → a ≡ chosen c → (start : Minute) → a.choice ≡ Ok start → Started c start a.path
-started (granted g) a e start s =
-    let z : ◌≡◌ {A = Result Minute Refusal} (Ok (record { 0 = g.start })) (Ok start) = sym (ap (λ x. x.choice) e) ∙ s in
-    record { grant = g; is_granted = refl; start_is = cc; path_is = ap (λ x. x.path) e }
-started no_start a e start s = let z : ◌≡◌ {A = Result Minute Refusal} (Err NoStart) (Ok start) = sym (ap (λ x. x.choice) e) ∙ s in absurd (let y : ◌≡◌ {A = ℕ} 0 1 = cc in omega arith)
+pub started : (c : Choice Grant) (given : Granted) → Ok given ≡ chosen c → Started c given
+started (granted g) given e = record { grant = g; is_granted = refl; given_is = cc }
+started no_start given e = let z : ◌≡◌ {A = ℕ} 0 1 = cc in absurd (omega arith)
 
-pub none_started : (c : Choice Grant) (a : Chosen) → a ≡ chosen c → (k : Refusal) → a.choice ≡ Err k → c ≡ no_start
-none_started (granted g) a e k s = let z : ◌≡◌ {A = Result Minute Refusal} (Ok (record { 0 = g.start })) (Err k) = sym (ap (λ x. x.choice) e) ∙ s in absurd (let y : ◌≡◌ {A = ℕ} 0 1 = cc in omega arith)
-none_started no_start a e k s = refl
+pub none_started : (c : Choice Grant) (k : Refusal) → Err k ≡ chosen c → c ≡ no_start
+none_started (granted g) k e = let z : ◌≡◌ {A = ℕ} 0 1 = cc in absurd (omega arith)
+none_started no_start k e = refl

@@ -14,7 +14,9 @@ use Rattle.path_search.specs.declared.Path.{Path}
 use Rattle.path_search.specs.Paths.{Graph, Route, along, none}
 use Rattle.path_search.specs.Answer.{graph, path_of, found_path}
 use Rattle.choice.specs.declared.asked.Asked.{Asked}
-use Rattle.choice.specs.declared.Chosen.{Chosen}
+use Rattle.std.proofs.Common.{Result}
+use Rattle.units.specs.declared.Refusal.{Refusal}
+use Rattle.choice.specs.declared.Granted.{Granted}
 use Rattle.choice.specs.Choice.{Grant, Choice, granted, grant_at, route_at, try_at, possible}
 use Rattle.choice.specs.EventTables.{clock_of}
 use Rattle.choice.specs.Answer.{wanted, carried, route_of, possible_of, choice_of, Askable, start_with, refusal, chosen}
@@ -82,7 +84,7 @@ module _ (a : Asked) where
   possible_some = some_route g carries_it from to
 
   module _ (low latest : ℕ) (early : clock ≤ low) where
-    abbrev Answered : Chosen → Type 0
+    abbrev Answered : Result Granted Refusal → Type 0
     Answered r = r ≡ chosen (choice_of a low latest)
 
     back : (k m : ℕ) → k ≤ m → NoneBetween times k m → possible_of a m ≡ true → possible_of a k ≡ true

@@ -8,6 +8,7 @@ use Prim.Native.Nat.{ℕ, suc, ◌+◌, ◌≤◌, ◌<◌}
 use native.Mathlib.Nat.{le_refl, le_trans, le_antisymm}
 use native.Mathlib.Decide.{dec_lt}
 use native.Mathlib.Omega.{arith}
+use Rattle.std.proofs.Common.{Result}
 use Rattle.units.specs.Limits.{last_node}
 use Rattle.units.proofs.Tests.{Tells, at_most}
 use Rattle.units.proofs.Search.{clash, all_from_all, all_allFrom}
@@ -24,7 +25,8 @@ use Rattle.path_search.proofs.Chains.{Way}
 use Rattle.path_search.proofs.Loops.{NodesBelow}
 use Rattle.path_search.proofs.Paths.{chain_leads}
 use Rattle.path_search.proofs.InRange.{nodes_below}
-use Rattle.choice.specs.declared.Chosen.{Chosen}
+use Rattle.units.specs.declared.Refusal.{Refusal}
+use Rattle.choice.specs.declared.Granted.{Granted}
 use Rattle.choice.specs.Choice.{Grant, Choice, granted, route_at, try_at, possible, choose}
 use Rattle.choice.specs.Carrying.{suffices, carries}
 use Rattle.choice.specs.Answer.{wanted, choice_for, start_with, refusal, chosen}
@@ -36,7 +38,7 @@ use Rattle.choice.proofs.Possible.{grant_starts, possible_more}
 -- a start is no refusal
 started_refused : {X : Type 0} (start : ℕ) (path : Path) → start_with (record { 0 = start }) path ≡ refusal → X
 started_refused start path e =
-    let apart = ap (λ (r : Chosen). r.choice) e in
+    let apart : ◌≡◌ {A = Result Granted Refusal} (start_with (record { 0 = start }) path) refusal = e in
     let z : ◌≡◌ {A = ℕ} 0 1 = cc in
     absurd (omega arith)
 
@@ -86,7 +88,7 @@ module _ (g : Graph) (figure : ℕ → ℕ → ℕ) (bandwidth duration source d
       )
 
   module _ (low latest : ℕ) where
-    abbrev RightAnswer : Chosen → Type 0
+    abbrev RightAnswer : Result Granted Refusal → Type 0
     RightAnswer = Right g figure bandwidth duration source destination low latest
 
     abbrev None : Type 0
@@ -118,7 +120,7 @@ module _ (g : Graph) (figure : ℕ → ℕ → ℕ) (bandwidth duration source d
     -- ---- the answer
 
     -- Refusal 8 if and only if no minute of the window has a chain.
-    pub refused_iff : (r : Chosen) → RightAnswer r → (r ≡ refusal) ↔ None
+    pub refused_iff : (r : Result Granted Refusal) → RightAnswer r → (r ≡ refusal) ↔ None
     refused_iff r (best start path b) = ((λ e. started_refused start (path_of path) e), λ h. absurd (h start path b.in_window b.carried))
     refused_iff r (none_possible h) = ((λ e. h), λ k. refl)
 
@@ -137,7 +139,7 @@ module _ (g : Graph) (figure : ℕ → ℕ → ℕ) (bandwidth duration source d
         }
 
     -- One answer is right.
-    pub right_only : (r s : Chosen) → RightAnswer r → RightAnswer s → r ≡ s
+    pub right_only : (r s : Result Granted Refusal) → RightAnswer r → RightAnswer s → r ≡ s
     right_only r s (best m p b) (best n q d) =
         ap (λ x. chosen (granted x)) (is_grant_only g carried source destination low latest (record { start = m; path = p }) (record { start = n; path = q }) (best_grant m p b) (best_grant n q d))
     right_only r s (best m p b) (none_possible h) = absurd (h m p b.in_window b.carried)
@@ -202,7 +204,7 @@ module _ (g : Graph) (before after : ℕ → ℕ → ℕ) (more : NowhereLower b
 
 -- What `choose` promises is right, by the figures that the lent tables keep.
 pub promise_right : (s : Search) (es t : List ℕ) (low latest : ℕ) → s.source ≢ s.destination → s.source ≤ last_node
-    → (r : Chosen) → r ≡ chosen (choice_for (wanted s) es t low latest) → Right (graph s.ends) (kept es t) s.bandwidth.0 s.span.0 s.source s.destination low latest r
+    → (r : Result Granted Refusal) → r ≡ chosen (choice_for (wanted s) es t low latest) → Right (graph s.ends) (kept es t) s.bandwidth.0 s.span.0 s.source s.destination low latest r
 promise_right s es t low latest apart node r e =
     subst (Right (graph s.ends) (kept es t) s.bandwidth.0 s.span.0 s.source s.destination low latest) (sym e)
     (choose_right (graph s.ends) (kept es t) s.bandwidth.0 s.span.0 s.source s.destination low latest apart (nodes_below s.ends) node)

@@ -12,7 +12,6 @@ use Rattle.path_search.specs.declared.Path.{Path}
 use Rattle.path_search.specs.Answer.{graph, path_of}
 use Rattle.choice.specs.Carrying.{carries}
 use Rattle.choice.specs.EventTables.{clock_of}
-use Rattle.choice.specs.declared.Chosen.{Chosen}
 use Rattle.choice.specs.declared.Granted.{Granted}
 use Rattle.choice.specs.declared.ChoiceRecord.{ChoiceRecord}
 use Rattle.choice.specs.declared.search.Search.{Search}
@@ -63,28 +62,19 @@ abbrev pub AskableOf : Asked → ℕ → ℕ → Type 0
 AskableOf a = Askable a.table.events.now a.search.now.span.0
 
 -- document 01's 'start with its path', as it is answered
-abbrev pub start_with : Minute → Path → Chosen
-start_with start path = record { choice = Ok start; path = path }
+abbrev pub start_with : Minute → Path → Result Granted Refusal
+start_with start path = Ok (record { start = start; path = path })
 
--- document 01's 'one refusal number', as it is answered: the path is zero
-abbrev pub refusal : Chosen
-refusal = record { choice = Err NoStart; path = path_of [] }
+-- document 01's 'one refusal number', as it is answered
+abbrev pub refusal : Result Granted Refusal
+refusal = Err NoStart
 
 -- a choice as it is answered
-abbrev pub chosen : Choice Grant → Chosen
+abbrev pub chosen : Choice Grant → Result Granted Refusal
 chosen (granted g) = start_with (record { 0 = g.start }) (path_of g.path)
 chosen no_start = refusal
 
--- document 01's number and values for each case of a choice; 0 is the number of a start
-abbrev pub values_of : Result Minute Refusal → Path → ChoiceRecord
-values_of (Ok start) path = record { refusal = 0; start = start; path = path }
-values_of (Err refused) path = record { refusal = number refused; start = record { 0 = 0 }; path = path }
-
--- and of an answer: 'on refusal start and path are zero'
-abbrev pub values : Chosen → ChoiceRecord
-values r = values_of r.choice r.path
-
--- the same of a start that is granted, or its refusal
-abbrev pub granted_values : Result Granted Refusal → ChoiceRecord
-granted_values (Ok given) = record { refusal = 0; start = given.start; path = given.path }
-granted_values (Err refused) = record { refusal = number refused; start = record { 0 = 0 }; path = path_of [] }
+-- document 01's number and values for each case; 0 is the number of a start, and 'on refusal start and path are zero'
+abbrev pub values : Result Granted Refusal → ChoiceRecord
+values (Ok given) = record { refusal = 0; start = given.start; path = given.path }
+values (Err refused) = record { refusal = number refused; start = record { 0 = 0 }; path = path_of [] }

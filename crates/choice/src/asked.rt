@@ -2,11 +2,11 @@
 
 ghost use Rattle.choice.specs.EventTables.{AreEvents};
 
+use crate::Granted;
 use crate::search::Search;
-use crate::{Chosen, refused, started};
 use free_table::FreeTable;
 use path_search::{LinkSet, Network, Path};
-use units::{Minute, end_minute};
+use units::{Minute, Refusal, end_minute};
 
 // What is asked of any start, and the events and figures of which.
 #[derive(Clone, Copy)]
@@ -39,35 +39,35 @@ impl Asked<'_, '_> {
     }
 
     // The choice among the events after low: the first at which there is a path, up to the latest start.
-    pub fn choose_event(&self, low: Minute, latest: Minute) -> Chosen
+    pub fn choose_event(&self, low: Minute, latest: Minute) -> Result<Granted, Refusal>
         requires askable { AskableOf self.now low.0 latest.0 }
         requires low_impossible { possible_of self.now low.0 ≡ false }
         ensures { result ≡ chosen (choice_of self.now low.0 latest.0) }
     {
         for &event in self.table.events {
             if latest.0 < event {
-                return refused();
+                return Err(Refusal::NoStart);
             }
             if low.0 < event {
                 let start = Minute(event);
                 if let Some(path) = self.path_at(start) {
-                    return started(start, path);
+                    return Ok(Granted { start, path });
                 }
             }
         }
-        refused()
+        Err(Refusal::NoStart)
     }
 
     // The earliest start of low to latest at which there is a path, with that path; refusal 8 where there is none.
-    pub fn choose(&self, low: Minute, latest: Minute) -> Chosen
+    pub fn choose(&self, low: Minute, latest: Minute) -> Result<Granted, Refusal>
         requires { AskableOf self.now low.0 latest.0 }
         ensures { result ≡ chosen (choice_of self.now low.0 latest.0) }
     {
         if latest.0 < low.0 {
-            return refused();
+            return Err(Refusal::NoStart);
         }
         if let Some(path) = self.path_at(low) {
-            return started(low, path);
+            return Ok(Granted { start: low, path });
         }
         self.choose_event(low, latest)
     }

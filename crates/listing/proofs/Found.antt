@@ -9,7 +9,6 @@ use native.Mathlib.Omega.{arith}
 use lib.ListN.{length, set, take, replicate, length-append, length-set}
 use lib.Seq.{take-suc-set}
 use Rattle.std.proofs.Common.{Option, Some, None}
-use Rattle.std.specs.Result.{result_ok}
 use Rattle.units.specs.declared.Minute.{Minute}
 use Rattle.units.specs.Limits.{most_ranges, list_size}
 use Rattle.timeline.specs.Events.{events}
@@ -21,7 +20,7 @@ use Rattle.choice.specs.Answer.{wanted, carried, route_of, possible_of, choice_o
 use Rattle.choice.proofs.Starts.{ChoiceFound, found, none_found, choice_found}
 use Rattle.choice.proofs.Possible.{grant_starts}
 use Rattle.choice.proofs.Exits.{clock, times, carried_back, try_of}
-use Rattle.listing.specs.Ranges.{Range, ranges_from, ranges, figures, list_table, start_of}
+use Rattle.listing.specs.Ranges.{Range, ranges_from, ranges, figures, list_table, start_of, start_granted}
 use Rattle.listing.specs.Right.{RunEnd}
 use Rattle.listing.proofs.Laws.{IsRange, AreRanges, fails_first, are_ranges, are_only}
 use Rattle.listing.proofs.Theorems.{ranges_are, ranges_fit}
@@ -36,7 +35,7 @@ abbrev pub start_or : ℕ → Choice Grant → ℕ
 start_or after c = minute_or after (start_of c)
 
 -- what is answered tells it
-pub start_answered : (c : Choice Grant) → result_ok (chosen c).choice ≡ start_of c
+pub start_answered : (c : Choice Grant) → start_granted (chosen c) ≡ start_of c
 start_answered (granted g) = refl
 start_answered no_start = refl
 

@@ -1,9 +1,11 @@
 -- Every start there is: the ranges of the possible minutes of a window, tried at every minute. It knows nothing of bookings.
-use Rattle.std.specs.Prelude.{List, [], ◌∷◌, Bool, true, false, Option, Some, None, ℕ, zero, suc, ◌-◌, eqb}
+use Rattle.std.specs.Prelude.{List, [], ◌∷◌, Bool, true, false, Option, Some, None, Result, Ok, Err, ℕ, zero, suc, ◌-◌, eqb}
 use Rattle.units.specs.declared.Minute.{Minute}
+use Rattle.units.specs.declared.Refusal.{Refusal}
 use Rattle.units.specs.Limits.{list_size}
 use Rattle.units.specs.Lists.{padded}
 use Rattle.path_search.specs.Paths.{Graph}
+use Rattle.choice.specs.declared.Granted.{Granted}
 use Rattle.choice.specs.declared.asked.Asked.{Asked}
 use Rattle.choice.specs.Choice.{Grant, Choice, granted, no_start, possible}
 use Rattle.choice.specs.Answer.{Wanted, wanted, carried}
@@ -53,3 +55,8 @@ list_table rs = padded list_size (figures rs)
 abbrev pub start_of : Choice Grant → Option Minute
 start_of (granted g) = Some (record { 0 = g.start })
 start_of no_start = None
+
+-- the same of the answer that tells it
+abbrev pub start_granted : Result Granted Refusal → Option Minute
+start_granted (Ok given) = Some given.start
+start_granted (Err refusal) = None

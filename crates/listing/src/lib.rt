@@ -6,11 +6,18 @@
 ghost use Rattle.std.specs.Prelude.{◌≡◌, true, false, suc, ◌≤◌, length};
 ghost use Rattle.units.specs.Limits.{most_ranges, list_size};
 ghost use Rattle.choice.specs.Answer.{possible_of, choice_of, AskableOf};
-ghost use Rattle.listing.specs.Ranges.{ranges_of, list_table, start_of};
+ghost use Rattle.listing.specs.Ranges.{ranges_of, list_table, start_of, start_granted};
 ghost use Rattle.listing.specs.Right.{RunEnd};
 
-use choice::Asked;
-use units::{Minute, end_minute};
+use choice::{Asked, Granted};
+use units::{Minute, Refusal, end_minute};
+
+// The start of a choice, where one is granted.
+fn start_granted(choice: Result<Granted, Refusal>) -> Option<Minute>
+    ensures { result ≡ start_granted choice }
+{
+    Some(choice.ok()?.start)
+}
 
 // The first possible minute from one on that is not possible, or past the window; that minute is not tried again.
 fn next_start(asked: &Asked, end: Minute, latest: Minute) -> Option<Minute>
@@ -21,7 +28,7 @@ fn next_start(asked: &Asked, end: Minute, latest: Minute) -> Option<Minute>
     if latest.0 < end.0 {
         return None;
     }
-    asked.choose_event(end, latest).choice.ok()
+    start_granted(asked.choose_event(end, latest))
 }
 
 // Where the possible minutes from a possible start on end: at the first minute that is not, or after latest. A span that
@@ -59,7 +66,7 @@ pub fn list_ranges(asked: &Asked, low: Minute, latest: Minute, list: &mut [u32])
     ensures written { list.new ≡ list_table (ranges_of asked.now low.0 latest.0) }
 {
     let mut count: u32 = 0;
-    let mut next = asked.choose(low, latest).choice.ok();
+    let mut next = start_granted(asked.choose(low, latest));
     while let Some(start) = next {
         let end = run_end(asked, start, latest);
         let place = count as usize * 2;

@@ -5,18 +5,17 @@ use Prim.Native.Nat.{ℕ, ◌≤◌, ◌<◌}
 use native.Mathlib.Omega.{arith}
 use lib.ListN.{length, get_or}
 use Rattle.std.proofs.Common.{Ok, Err}
-use Rattle.units.specs.declared.Minute.{Minute}
+use Rattle.std.proofs.Common.{Ok, Err}
 use Rattle.units.specs.declared.Refusal.{Refusal}
 use Rattle.units.specs.declared.Request.{Request}
 use Rattle.units.specs.Limits.{most_links, most_events}
 use Rattle.units.specs.Lists.{padded}
 use Rattle.units.specs.Spans.{span_of}
 use Rattle.free_table.specs.Looking.{TablesSized}
-use Rattle.path_search.specs.declared.Path.{Path}
 use Rattle.path_search.specs.Ends.{InRange}
 use Rattle.path_search.specs.Answer as search
 use Rattle.path_search.proofs.Agree.{Agree}
-use Rattle.choice.specs.declared.Chosen.{Chosen}
+use Rattle.choice.specs.declared.Granted.{Granted}
 use Rattle.choice.specs.Choice.{Grant, Choice, granted, no_start, choose}
 use Rattle.choice.specs.EventTables.{clock_of}
 use Rattle.choice.specs.Answer as answers
@@ -102,19 +101,18 @@ module _ (links : List Link) (t : Tables) (f : Fine links t) where
         ranges_agree (ends_of links) (graph links) (answers.carried (search_of t.head links r) t.events t.free) (carries links (held t) r) r.from r.to (low (held t) r) r.latest.0 agree
 
     -- a start that the chooser answers is the plain book's grant, with its path
-    pub record Started (start : Minute) (path : Path) : Type 0 where
+    pub record Started (given : Granted) : Type 0 where
       pub grant : Grant
       pub is_best : by_book ≡ granted grant
-      pub start_is : start ≡ record { 0 = grant.start }
-      pub path_is : path ≡ search.path_of grant.path
+      pub given_is : given ≡ record { start = record { 0 = grant.start }; path = search.path_of grant.path }
 
-    pub chosen_start : (a : Chosen) → a ≡ answers.chosen by_tables → (start : Minute) → a.choice ≡ Ok start → Started start a.path
-    chosen_start a e start s =
-        let w = started by_tables a e start s in
-        record { grant = w.grant; is_best = sym same_choice ∙ w.is_granted; start_is = w.start_is; path_is = w.path_is }
+    pub chosen_start : (given : Granted) → Ok given ≡ answers.chosen by_tables → Started given
+    chosen_start given e =
+        let w = started by_tables given e in
+        record { grant = w.grant; is_best = sym same_choice ∙ w.is_granted; given_is = w.given_is }
 
-    pub chosen_none : (a : Chosen) → a ≡ answers.chosen by_tables → (k : Refusal) → a.choice ≡ Err k → by_book ≡ no_start
-    chosen_none a e k s = sym same_choice ∙ none_started by_tables a e k s
+    pub chosen_none : (k : Refusal) → Err k ≡ answers.chosen by_tables → by_book ≡ no_start
+    chosen_none k e = sym same_choice ∙ none_started by_tables k e
 
     -- what the plain book answers then
     pub best_starts : (g : Grant) → by_book ≡ granted g → best links (held t) r ≡ starts g

@@ -12,12 +12,12 @@ ghost use Rattle.listing.specs.Ranges.{ranges_for, list_table};
 ghost use Rattle.lent.specs.Lent.{tables_in};
 ghost use Rattle.starts.specs.Asked.{search_of, Asks};
 
-use choice::{Asked, Chosen, Search};
+use choice::{Asked, Granted, Search};
 use free_table::FreeTable;
 use lent::LentTables;
 use listing::list_ranges;
 use path_search::LinkEnds;
-use units::{Duration, Head, Link, Request, column, low_minute, span_of};
+use units::{Duration, Head, Link, Refusal, Request, column, low_minute, span_of};
 
 // What a request asks of any start on these links.
 fn search_of(head: Head, links: &[Link], request: Request) -> Search
@@ -42,7 +42,7 @@ fn search_of(head: Head, links: &[Link], request: Request) -> Search
 }
 
 // The earliest start of a request's window, with its path.
-pub fn best_start(tables: &LentTables<'_>, request: Request) -> Chosen
+pub fn best_start(tables: &LentTables<'_>, request: Request) -> Result<Granted, Refusal>
     requires { Asks tables.now.links.now (tables_in tables.now) request }
     ensures { result ≡ chosen (choice_for (search_of tables.now.head tables.now.links.now request) tables.now.events.now tables.now.free.now (low_of tables.now.head request) request.latest.0) }
 {

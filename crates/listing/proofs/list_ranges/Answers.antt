@@ -9,27 +9,26 @@ use borrow.Rule.Slice.PartMut.{put_mid}
 use lib.ListN.{length, take, drop, replicate, length-set}
 use mathlib.Core.List.{◌++◌}
 use Rattle.std.proofs.lemmas.Slice.{overwrites}
-use Rattle.std.specs.Result.{result_ok}
 use Rattle.units.specs.Limits.{most_ranges}
 use Rattle.path_search.specs.Answer.{graph}
 use Rattle.choice.specs.Answer.{wanted, carried, possible_of, choice_of}
 use Rattle.choice.proofs.Exits.{askable_part}
-use Rattle.listing.specs.Ranges.{start_of}
+use Rattle.listing.specs.Ranges.{start_of, start_granted}
 use Rattle.listing.proofs.Found.{Listed, NextStart, minute_or, start_or, start_answered, start_found, next_start, listed_first, listed_few, listed_next, all_counted, all_written}
 use Rattle.listing.proofs.list_ranges.Goals as goal
-use Rattle.listing.proofs.list_ranges.Goals.{After-ok-next, In-Some, After-run_end-end, After-next_start-next}
+use Rattle.listing.proofs.list_ranges.Goals.{After-start_granted-next, In-Some, After-run_end-end, After-next_start-next}
 
 -- the first start is that of the choice
-first_is : (c : After-ok-next) → c.ok-next.result ≡ start_of (choice_of c.args.asked.now c.args.low.0 c.args.latest.0)
-first_is c = c.ok-next.ensures.value ∙ ap (λ r. result_ok r.choice) c.choose.ensures ∙ start_answered (choice_of c.args.asked.now c.args.low.0 c.args.latest.0)
+first_is : (c : After-start_granted-next) → c.start_granted-next.result ≡ start_of (choice_of c.args.asked.now c.args.low.0 c.args.latest.0)
+first_is c = c.start_granted-next.ensures ∙ ap start_granted c.choose.ensures ∙ start_answered (choice_of c.args.asked.now c.args.low.0 c.args.latest.0)
 
-first_or : (c : After-ok-next) → minute_or (suc c.args.latest.0) c.ok-next.result ≡ start_or (suc c.args.latest.0) (choice_of c.args.asked.now c.args.low.0 c.args.latest.0)
+first_or : (c : After-start_granted-next) → minute_or (suc c.args.latest.0) c.start_granted-next.result ≡ start_or (suc c.args.latest.0) (choice_of c.args.asked.now c.args.low.0 c.args.latest.0)
 first_or c = ap (minute_or (suc c.args.latest.0)) (first_is c)
 
 -- the start that is looked at lies in the window, behind the ranges so far
-listed_to : (c : In-Some) → Listed (possible_of c.args.asked.now) c.args.latest.0 (minute_or (suc c.args.latest.0) c.ok-next.result) c.loop-next.list c.loop-next.count c.in-Some.start.0
+listed_to : (c : In-Some) → Listed (possible_of c.args.asked.now) c.args.latest.0 (minute_or (suc c.args.latest.0) c.start_granted-next.result) c.loop-next.list c.loop-next.count c.in-Some.start.0
 listed_to c =
-    subst (Listed (possible_of c.args.asked.now) c.args.latest.0 (minute_or (suc c.args.latest.0) c.ok-next.result) c.loop-next.list c.loop-next.count)
+    subst (Listed (possible_of c.args.asked.now) c.args.latest.0 (minute_or (suc c.args.latest.0) c.start_granted-next.result) c.loop-next.list c.loop-next.count)
     (ap (minute_or (suc c.args.latest.0)) c.in-Some.is) c.loop-next.invariant.listed
 
 -- it is possible
@@ -40,7 +39,7 @@ looked_at c = c.loop-next.invariant.in_window c.in-Some.start c.in-Some.is
 room : (c : After-run_end-end) → c.loop-next.count < most_ranges
 room c =
     let at = goal.at.After-run_end-end c in
-    listed_few c.args.asked.now c.args.low.0 c.args.latest.0 (minute_or (suc c.args.latest.0) c.ok-next.result) (first_or at.After-ok-next) c.loop-next.list c.loop-next.count c.in-Some.start.0 (listed_to at.In-Some) (looked_at at.In-Some).1
+    listed_few c.args.asked.now c.args.low.0 c.args.latest.0 (minute_or (suc c.args.latest.0) c.start_granted-next.result) (first_or at.After-start_granted-next) c.loop-next.list c.loop-next.count c.in-Some.start.0 (listed_to at.In-Some) (looked_at at.In-Some).1
     c.run_end-end.result.0 c.run_end-end.ensures c.requires.askable.not_past c.requires.events_fit
 
 -- the next start, or the minute after the window
@@ -54,8 +53,8 @@ pub loop-next-init : goal.loop-next-init
 loop-next-init c =
     let a = c.args.asked.now in
     record {
-      listed = listed_first a c.args.low.0 c.args.latest.0 (minute_or (suc c.args.latest.0) c.ok-next.result) (first_or (goal.at.loop-next-init c).After-ok-next) c.args.list.now c.requires.list_sized;
-      in_window = λ m e. start_found a c.args.low.0 c.args.latest.0 m (sym (first_is (goal.at.loop-next-init c).After-ok-next) ∙ e);
+      listed = listed_first a c.args.low.0 c.args.latest.0 (minute_or (suc c.args.latest.0) c.start_granted-next.result) (first_or (goal.at.loop-next-init c).After-start_granted-next) c.args.list.now c.requires.list_sized;
+      in_window = λ m e. start_found a c.args.low.0 c.args.latest.0 m (sym (first_is (goal.at.loop-next-init c).After-start_granted-next) ∙ e);
     }
 
 pub run_end-end-requires : goal.run_end-end-requires
@@ -83,19 +82,19 @@ loop-next-preserved c =
     let at = goal.at.loop-next-preserved c in
     let a = c.args.asked.now in
     record {
-      listed = listed_next a c.args.low.0 c.args.latest.0 (minute_or (suc c.args.latest.0) c.ok-next.result) (first_or at.After-ok-next) c.loop-next.list c.loop-next.count c.in-Some.start.0 (listed_to at.In-Some) (looked_at at.In-Some).1
+      listed = listed_next a c.args.low.0 c.args.latest.0 (minute_or (suc c.args.latest.0) c.start_granted-next.result) (first_or at.After-start_granted-next) c.loop-next.list c.loop-next.count c.in-Some.start.0 (listed_to at.In-Some) (looked_at at.In-Some).1
           c.run_end-end.result.0 c.run_end-end.ensures (minute_or (suc c.args.latest.0) c.next_start-next.result) (following at.After-next_start-next) (room at.After-run_end-end);
       in_window = λ m e. let found = start_found a c.run_end-end.result.0 c.args.latest.0 m (sym c.next_start-next.ensures ∙ e) in (omega (arith, looked_at at.In-Some, c.run_end-end.ensures.after, found), found.1, found.2);
     }
 
 pub returns : goal.returns
 returns c =
-    let at = (goal.at.returns c).After-ok-next in
+    let at = (goal.at.returns c).After-start_granted-next in
     let l = c.loop-next in
     let a = c.args.asked.now in
     let none_left : minute_or (suc c.args.latest.0) l.next ≡ suc c.args.latest.0 = ap (minute_or (suc c.args.latest.0)) c.in_default.is in
     let outside : c.args.latest.0 < minute_or (suc c.args.latest.0) l.next = omega arith in
-    let first = minute_or (suc c.args.latest.0) c.ok-next.result in
+    let first = minute_or (suc c.args.latest.0) c.start_granted-next.result in
     let next = minute_or (suc c.args.latest.0) l.next in
     let size = l.invariant.listed.sized in
     let room = l.invariant.listed.room in

@@ -1,11 +1,10 @@
 -- next_start meets its contract: past the window there is no start; in it the choice among the events is taken apart.
 use mathlib.Core.Path.{sym, ◌∙◌, ap}
 use native.Mathlib.Omega.{arith}
-use Rattle.std.specs.Result.{result_ok}
 use Rattle.choice.specs.Answer.{choice_of}
 use Rattle.choice.proofs.Exits.{try_of}
 use Rattle.choice.proofs.Starts.{earliest_none}
-use Rattle.listing.specs.Ranges.{start_of}
+use Rattle.listing.specs.Ranges.{start_of, start_granted}
 use Rattle.listing.proofs.Found.{start_answered}
 use Rattle.listing.proofs.next_start.Goals as goal
 
@@ -14,4 +13,4 @@ returns-then-latest-end c = sym (ap start_of (earliest_none (try_of c.args.asked
 
 pub returns : goal.returns
 returns c =
-    c.ok.ensures.value ∙ ap (λ r. result_ok r.choice) c.choose_event.ensures ∙ start_answered (choice_of c.args.asked.now c.args.end.0 c.args.latest.0)
+    c.start_granted.ensures ∙ ap start_granted c.choose_event.ensures ∙ start_answered (choice_of c.args.asked.now c.args.end.0 c.args.latest.0)

@@ -6,11 +6,11 @@ use Rattle.choice.proofs.Exits.{possible_some, answer_empty, answer_low}
 use Rattle.choice.proofs.asked.Asked.choose.Goals as goal
 
 pub returns-then-latest-low : goal.returns-then-latest-low
-returns-then-latest-low c = c.refused.ensures ∙ answer_empty c.args.self.now c.args.low.0 c.args.latest.0 c.requires.not_past (omega (arith, c.if-latest-low.true))
+returns-then-latest-low c = answer_empty c.args.self.now c.args.low.0 c.args.latest.0 c.requires.not_past (omega (arith, c.if-latest-low.true))
 
 pub returns-in-Some : goal.returns-in-Some
 returns-in-Some c =
-    c.started.ensures ∙ answer_low c.args.self.now c.args.low.0 c.args.latest.0 c.requires.not_past (omega arith) c.path_at.result c.path_at.ensures c.in-Some.path c.in-Some.is
+    answer_low c.args.self.now c.args.low.0 c.args.latest.0 c.requires.not_past (omega arith) c.path_at.result c.path_at.ensures c.in-Some.path c.in-Some.is
 
 pub choose_event-requires-clause-low_impossible : goal.choose_event-requires-clause-low_impossible
 choose_event-requires-clause-low_impossible c = sym (possible_some c.args.self.now c.args.low.0 c.path_at.result c.path_at.ensures) ∙ ap is_some c.in_default.is

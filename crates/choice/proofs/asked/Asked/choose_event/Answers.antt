@@ -13,13 +13,12 @@ use Rattle.choice.proofs.asked.Asked.choose_event.Goals.{then-low-event+in_defau
 pub returns-then-latest-event : goal.returns-then-latest-event
 returns-then-latest-event c =
     let l = c.loop-event in
-    c.refused.ensures ∙ answer_late c.args.self.now c.args.low.0 c.args.latest.0 c.requires.askable.not_past l.event-index l.invariant (omega (arith, c.if-latest-event.true))
+    answer_late c.args.self.now c.args.low.0 c.args.latest.0 c.requires.askable.not_past l.event-index l.invariant (omega (arith, c.if-latest-event.true))
 
 pub returns-in-Some : goal.returns-in-Some
 returns-in-Some c =
     let l = c.loop-event in
-    c.started.ensures
-    ∙ answer_event c.args.self.now c.args.low.0 c.args.latest.0 c.requires.askable.not_past l.event-index l.invariant (omega (arith, c.if-low-event.true)) (omega (arith, c.if-latest-event.false)) c.path_at.result c.path_at.ensures c.in-Some.path c.in-Some.is
+    answer_event c.args.self.now c.args.low.0 c.args.latest.0 c.requires.askable.not_past l.event-index l.invariant (omega (arith, c.if-low-event.true)) (omega (arith, c.if-latest-event.false)) c.path_at.result c.path_at.ensures c.in-Some.path c.in-Some.is
 
 pub loop-event-preserved : goal.loop-event-preserved
 loop-event-preserved c =
@@ -36,4 +35,4 @@ loop-event-preserved c =
 pub returns : goal.returns
 returns c =
     let l = c.loop-event in
-    c.refused-2.ensures ∙ answer_left c.args.self.now c.args.low.0 c.args.latest.0 c.requires.askable.not_past l.event-index l.invariant (omega arith)
+    answer_left c.args.self.now c.args.low.0 c.args.latest.0 c.requires.askable.not_past l.event-index l.invariant (omega arith)
