@@ -12,8 +12,8 @@ use Rattle.opening.proofs.Opening.{no_byte, out_of_range, too_short, by_records}
 use Rattle.opening.proofs.session_links.Goals as goal
 use Rattle.opening.proofs.session_links.Goals.{In-Some, After-from-count}
 
-pub returns-in_default : goal.returns-in_default
-returns-in_default c = no_byte c.args.bytes.now (grind (arith, common_steps))
+pub returns-in_default-clause-refusal : goal.returns-in_default-clause-refusal
+returns-in_default-clause-refusal c = no_byte c.args.bytes.now (grind (arith, common_steps))
 
 -- a first byte there is, and it is the count
 some : (c : In-Some) → length c.args.bytes.now ≡ 0 → ⊥
@@ -22,22 +22,21 @@ some c z = let h = slice_get_within c.args.bytes.now 0 _ (sym c.in-Some.ensures.
 counted : (c : After-from-count) → c.from-count.result ≡ first_byte c.args.bytes.now
 counted c = c.from-count.ensures ∙ sym (get_or_from_slice_get c.args.bytes.now 0 _ 0 (sym c.in-Some.ensures.value))
 
-pub returns-then-not-contains : goal.returns-then-not-contains
-returns-then-not-contains c =
-    let before = goal.at.returns-then-not-contains c in
+pub returns-then-not-contains-clause-refusal : goal.returns-then-not-contains-clause-refusal
+returns-then-not-contains-clause-refusal c =
+    let before = goal.at.returns-then-not-contains-clause-refusal c in
     let outside : within 1 most_links c.from-count.result ≡ false = grind (arith, common_steps) in
     out_of_range c.args.bytes.now (some before.In-Some) (rw (counted before.After-from-count) at outside)
 
-pub returns-then-bytes-count : goal.returns-then-bytes-count
-returns-then-bytes-count c =
-    let before = goal.at.returns-then-bytes-count c in
+pub returns-then-bytes-count-clause-refusal : goal.returns-then-bytes-count-clause-refusal
+returns-then-bytes-count-clause-refusal c =
+    let before = goal.at.returns-then-bytes-count-clause-refusal c in
     let inside : within 1 most_links c.from-count.result ≡ true = grind (arith, common_steps) in
     let e = counted before.After-from-count in
     too_short c.args.bytes.now (some before.In-Some) (rw e at inside) (rw e at c.if-bytes-count.true)
 
-pub returns : goal.returns
-returns c =
-    let before = goal.at.returns c in
-    let inside : within 1 most_links c.from-count.result ≡ true = grind (arith, common_steps) in
-    let e = counted before.After-from-count in
-    by_records c.args.bytes.now (some before.In-Some) (rw e at inside) (rw e at c.if-bytes-count.false) (rw e at c.read_links.ensures)
+pub returns-in_err-read_links-clause-refusal : goal.returns-in_err-read_links-clause-refusal
+returns-in_err-read_links-clause-refusal c = ?
+
+pub returns-clause-refusal : goal.returns-clause-refusal
+returns-clause-refusal c = ?
