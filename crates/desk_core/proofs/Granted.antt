@@ -1,6 +1,6 @@
 -- On fine tables what the chooser answers is the plain book's best start: as it is handed out, and as it is entered.
 use mathlib.Core.List.{List}
-use mathlib.Core.Path.{◌≡◌, refl, sym, ◌∙◌, ap}
+use mathlib.Core.Path.{◌≡◌, sym, ◌∙◌, ap, ap₂}
 use mathlib.Core.Bool.{false, and-eq-true_iff}
 use borrow.Author.Tests.{not-true, ltb-true}
 use Prim.Native.Nat.{ℕ, ◌-◌, ◌≤◌, ◌<◌}
@@ -14,14 +14,14 @@ use Rattle.units.proofs.Tests.{in_range}
 use Rattle.path_search.specs.declared.Path.{Path}
 use Rattle.path_search.specs.Answer as search
 use Rattle.choice.specs.declared.Chosen.{Chosen}
-use Rattle.choice.specs.Choice.{Grant, Choice, granted, no_start}
 use Rattle.choice.specs.Answer as answers
 use Rattle.units.specs.declared.Link.{Link}
 use Rattle.rules.specs.Plain.{Booking, terms}
-use Rattle.rules.specs.Calls.{Ask, best, stands, number_ok, request_ok, own_checks, chosen as desk_chosen}
+use Rattle.rules.specs.Calls.{Ask, stands, number_ok, request_ok, own_checks}
 use Rattle.rules.specs.Tables.{Tables, held, Fine}
-use Rattle.starts.proofs.BestStart.{by_tables, same_choice, Started}
-use Rattle.desk_core.specs.Lent as words
+use Rattle.units.specs.Spans.{low_of}
+use Rattle.starts.specs.Asked.{search_of}
+use Rattle.starts.proofs.BestStart.{Started}
 use Rattle.changes.specs.Updating.{booked, Grantable}
 use Rattle.rules.proofs.Checks.{Passed}
 use Rattle.rules.proofs.Choices.{GoodGrant, good_best}
@@ -29,16 +29,13 @@ use Rattle.rules.proofs.Step.{obeys_booked}
 use Rattle.rules.proofs.Tests.{RequestRight}
 use Rattle.rules.proofs.Fine.{book_obeys}
 
-module _ (links : List Link) (t : Tables) (f : Fine links t) (r : Request) (q : RequestRight r) where
-  -- the record of the choice
-  pub told : (a : Chosen) → a ≡ answers.chosen (by_tables links t f r q) → answers.values a ≡ words.choice_shown (best links (held t) r)
-  unfolding best
-  told a e = ap (λ x. answers.values x) e ∙ by (by_tables links t f r q) ∙ ap (λ c. words.choice_shown (desk_chosen c)) (same_choice links t f r q)
-    where
-      by : (c : Choice Grant) → answers.values (answers.chosen c) ≡ words.choice_shown (desk_chosen c)
-      by (granted g) = refl
-      by no_start = refl
+-- the choice on tables that are read is the choice on the desk's
+pub found_best : {l links : List Link} {s t : Tables} {a : Chosen} → l ≡ links → s ≡ t → (r : Request)
+    → a ≡ answers.chosen (answers.choice_for (search_of s.head l r) s.events s.free (low_of s.head r) r.latest.0)
+    → a ≡ answers.chosen (answers.choice_for (search_of t.head links r) t.events t.free (low_of t.head r) r.latest.0)
+found_best same_links same_tables r e = e ∙ ap₂ (λ l t. answers.chosen (answers.choice_for (search_of t.head l r) t.events t.free (low_of t.head r) r.latest.0)) same_links same_tables
 
+module _ (links : List Link) (t : Tables) (f : Fine links t) (r : Request) (q : RequestRight r) where
   -- the booking that is entered is the one of the grant
   module _ (number : ℕ) (start : Minute) (path : Path) (s : Started links t f r q start path) where
     abbrev pub booking : Booking
