@@ -24,6 +24,7 @@ pub struct Answered {
 }
 
 // What the call that an order names answers, or why it is refused.
+#[tactic(auto, unfolding(crate::specs::Ordered::answered, desk_core::specs::Lent::tables_after, desk_core::specs::Lent::refusal_answer, desk_core::specs::Lent::choice_answer, histories::specs::Kinds::outcome))]
 fn answer_read(desk: &mut Desk<'_>, order: Order) -> Result<Answered, Refusal>
     ensures loans { SameLoans desk.old desk.new }
     ensures answer { told result ≡ (answered desk.old.links.now (tables_of desk.old) order).answer }
@@ -73,14 +74,15 @@ fn refused(refusal: Refusal) -> Answered
     }
 }
 
+#[tactic(auto, unfolding(crate::specs::Ordered::ordered))]
 // Answers any bytes as an order: 12 and 11 where they cannot be read, else what the call that the order names answers.
 pub fn answer_order(bytes: &[u8], desk: &mut Desk<'_>) -> Answered
     ensures loans { SameLoans desk.old desk.new }
     ensures answer { result ≡ (ordered desk.old.links.now (tables_of desk.old) bytes.now).answer }
     ensures tables { tables_of desk.new ≡ (ordered desk.old.links.now (tables_of desk.old) bytes.now).tables }
 {
-    match read_order(bytes).and_then(|order| answer_read(desk, order)) {
-        Ok(answer) => answer,
+    match read_order(bytes) {
+        Ok(order) => answer_read(desk, order).unwrap_or_else(refused),
         Err(refusal) => refused(refusal),
     }
 }
