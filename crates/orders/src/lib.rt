@@ -6,7 +6,7 @@ ghost use Rattle.std.specs.Prelude.{◌≡◌, ◌+◌, ◌≤◌, length};
 ghost use Rattle.lent.specs.Lent.{SameLoans, tables_of};
 ghost use Rattle.report.specs.Line.{max_line};
 ghost use Rattle.report.specs.Written.{Wrote};
-ghost use Rattle.orders.specs.Ordered.{told, answered, ordered, line_of};
+ghost use Rattle.orders.specs.Ordered.{told, ordered, line_of};
 
 use desk_core::{cancel, make_booking, move_clock, offer};
 use layout::Order;
@@ -23,14 +23,14 @@ pub struct Answered {
     pub path: Path,
 }
 
-// What the call that an order names answers, or why it is refused.
-#[tactic(auto, unfolding(crate::specs::Ordered::answered, desk_core::specs::Lent::tables_after, desk_core::specs::Lent::refusal_answer, desk_core::specs::Lent::choice_answer, histories::specs::Kinds::outcome))]
-fn answer_read(desk: &mut Desk<'_>, order: Order) -> Result<Answered, Refusal>
+// What the order that the bytes hold is answered, or why it is refused: 12 and 11 where they cannot be read.
+#[tactic(auto, unfolding(crate::specs::Ordered::ordered, crate::specs::Ordered::answered, desk_core::specs::Lent::tables_after, desk_core::specs::Lent::refusal_answer, desk_core::specs::Lent::choice_answer, histories::specs::Kinds::outcome))]
+fn carry_out(bytes: &[u8], desk: &mut Desk<'_>) -> Result<Answered, Refusal>
     ensures loans { SameLoans desk.old desk.new }
-    ensures answer { told result ≡ (answered desk.old.links.now (tables_of desk.old) order).answer }
-    ensures tables { tables_of desk.new ≡ (answered desk.old.links.now (tables_of desk.old) order).tables }
+    ensures answer { told result ≡ (ordered desk.old.links.now (tables_of desk.old) bytes.now).answer }
+    ensures tables { tables_of desk.new ≡ (ordered desk.old.links.now (tables_of desk.old) bytes.now).tables }
 {
-    match order {
+    match read_order(bytes)? {
         Order::Book(number, wish) => {
             let granted = make_booking(desk, number, Request::from(wish))?;
             let path = granted.path;
@@ -74,17 +74,13 @@ fn refused(refusal: Refusal) -> Answered
     }
 }
 
-#[tactic(auto, unfolding(crate::specs::Ordered::ordered))]
 // Answers any bytes as an order: 12 and 11 where they cannot be read, else what the call that the order names answers.
 pub fn answer_order(bytes: &[u8], desk: &mut Desk<'_>) -> Answered
     ensures loans { SameLoans desk.old desk.new }
     ensures answer { result ≡ (ordered desk.old.links.now (tables_of desk.old) bytes.now).answer }
     ensures tables { tables_of desk.new ≡ (ordered desk.old.links.now (tables_of desk.old) bytes.now).tables }
 {
-    match read_order(bytes) {
-        Ok(order) => answer_read(desk, order).unwrap_or_else(refused),
-        Err(refusal) => refused(refusal),
-    }
+    carry_out(bytes, desk).unwrap_or_else(refused)
 }
 
 // Answers any bytes as an order and writes its line from index `at` on; answers the index behind the line.
