@@ -31,6 +31,7 @@ fn read_links(bytes: &[u8], links: &mut [Link]) -> Result<(), Refusal>
 }
 
 // The links of a session's first bytes: 12 without a first byte, 1 for its range, 12 for too few bytes, 11 for a record.
+#[tactic(auto, unfolding(crate::specs::Opened::bytes_refusal))]
 fn session_links<'a>(bytes: &[u8], places: &'a mut [Link; LINKS]) -> Result<&'a [Link], Refusal>
     ensures refusal { number_of result ≡ bytes_refusal bytes.now }
     ensures links { IfOk result (λ links. links.now ≡ links_in bytes.now (first_byte bytes.now)) }
@@ -52,6 +53,7 @@ fn session_links<'a>(bytes: &[u8], places: &'a mut [Link; LINKS]) -> Result<&'a 
 
 // Opens a desk from the first bytes of a session and answers its links, which stand in the lent places: the refusals of the
 // links, then those of set-up.
+#[tactic(auto, unfolding(crate::specs::Opened::opened, desk_core::specs::Lent::refusal_answer, desk_core::specs::Lent::tables_after))]
 pub fn open_desk<'a>(
     bytes: &[u8],
     places: &'a mut [Link; LINKS],
