@@ -85,13 +85,7 @@ pub fn answer_order(bytes: &[u8], desk: &mut Desk<'_>) -> Answered
 
 // Answers any bytes as an order and writes its line from index `at` on; answers the index behind the line.
 #[tactic(auto, using(crate::proofs::Short::ordered_short))]
-pub fn run_order(
-    bytes: &[u8],
-    desk: &mut Desk<'_>,
-    out: &mut [u8],
-    at: usize,
-    place: u64,
-) -> usize
+pub fn run_order(bytes: &[u8], desk: &mut Desk<'_>, out: &mut [u8], at: usize, place: u64) -> usize
     requires { at + max_line ≤ length out.old }
     ensures loans { SameLoans desk.old desk.new }
     ensures wrote { Wrote (line_of place (ordered desk.old.links.now (tables_of desk.old) bytes.now)) out.old at out.new result }
