@@ -1,2 +1,2 @@
--- Laws of what the contracts of the calls cite: the links as columns.
-pub mod Laws
+-- What the columns of a list say of a call.
+pub mod Columns

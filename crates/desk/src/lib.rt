@@ -1,14 +1,11 @@
 // The seven calls of a desk in the forms that document 01 names, for C: the links lent for reading as a list of records, the
-// head lent and renewed where it stands, events, free figures and book as lent slices. Each call makes the list a table of
-// columns and hands it to its core in `desk_core`; nothing is decided here. Every call is answered for every input. `desk_c`
+// head lent and renewed where it stands, events, free figures and book as lent slices. Each call hands what it is lent to its
+// core in `desk_core` and makes the answer for C; nothing is decided here. Every call is answered for every input. `desk_c`
 // exports them.
 #![tactic(auto)]
 
-ghost use Rattle.std.specs.Prelude.{slice_index_or};
-ghost use Rattle.std.specs.Prelude.{◌≡◌, ◌<◌, length, get_or};
-ghost use Rattle.rules.specs.Plain.{no_link};
+ghost use Rattle.std.specs.Prelude.{◌≡◌, length};
 ghost use Rattle.rules.specs.Calls.{Ask, set_up, ask};
-ghost use Rattle.units.specs.LinkTables.{table_of};
 ghost use Rattle.rules.specs.Tables.{lent};
 ghost use Rattle.desk_core.specs.Lent.{choice_answer, listed_answer, list_after, shown_answer, refusal_answer, tables_after};
 
@@ -16,30 +13,8 @@ use choice::ChoiceRecord;
 use desk_core::{
     Listed, Shown, cancel, list_starts, make_booking, move_clock, offer, set_up, show,
 };
-use units::{Head, Link, LinkNumber, LinkTable, Minute, Request, at_most_64, empty_table, put};
-
-// Link `i` of the list.
-fn link_at(links: &[Link], i: usize) -> Link
-    requires { i < length links.now }
-    ensures { result ≡ slice_index_or links.now i no_link }
-{
-    links[i]
-}
-
-// The list as columns: its true length, and the fields of its first 64 links.
-fn link_table(links: &[Link]) -> LinkTable
-    ensures { result ≡ table_of links.now }
-{
-    let count = links.len();
-    let places = at_most_64(count);
-    let mut table = empty_table(count);
-    let mut i: usize = 0;
-    while i < places {
-        table = put(table, i, link_at(links, i));
-        i = i + 1;
-    }
-    table
-}
+use lent::{Desk, LentTables};
+use units::{Head, Link, LinkNumber, Minute, Request, refusal_number};
 
 // Sets a desk up at minute 0, with no bookings and all capacity free, whatever the tables held. Refuses 1 and 2.
 pub fn gcr_set_up(
@@ -53,10 +28,14 @@ pub fn gcr_set_up(
         (result ≡ refusal_answer links.now t set_up)
         × (lent head.new events.new free.new book.new ≡ tables_after links.now t set_up) }
 {
-    let table = link_table(links);
-    let out = set_up(*head, table, events, free, book);
-    *head = out.head;
-    out.refusal
+    let mut desk = Desk {
+        head,
+        links,
+        events,
+        free,
+        book,
+    };
+    refusal_number(set_up(&mut desk))
 }
 
 // Books the earliest start of the request's window. Refuses 1, 3, 4, 5, 6, 7 and 8.
@@ -73,10 +52,14 @@ pub fn gcr_book(
         (result ≡ choice_answer links.now t (ask (Ask.book number request)))
         × (lent head.new events.new free.new book.new ≡ tables_after links.now t (ask (Ask.book number request))) }
 {
-    let table = link_table(links);
-    let out = make_booking(*head, table, events, free, book, number, request);
-    *head = out.head;
-    out.answer
+    let mut desk = Desk {
+        head,
+        links,
+        events,
+        free,
+        book,
+    };
+    ChoiceRecord::from(make_booking(&mut desk, number, request))
 }
 
 // A booking without commitment or number; it writes no table. Refuses 1, 3, 4, 5 and 8.
@@ -90,8 +73,14 @@ pub fn gcr_offer(
 ) -> ChoiceRecord
     ensures { result ≡ choice_answer links.now (lent head.now events.now free.now book.now) (ask (Ask.offer request)) }
 {
-    let table = link_table(links);
-    offer(*head, table, events, free, book, request)
+    let tables = LentTables {
+        head: *head,
+        links,
+        events,
+        free,
+        book,
+    };
+    ChoiceRecord::from(offer(&tables, request))
 }
 
 // Every start there is: the ranges of possible start minutes of an offer's window, first and last of each, written into the
@@ -109,8 +98,14 @@ pub fn gcr_list_starts(
         (result ≡ listed_answer links.now t (ask (Ask.list (length list.old) request)))
         × (list.new ≡ list_after links.now t (ask (Ask.list (length list.old) request)) list.old) }
 {
-    let table = link_table(links);
-    list_starts(*head, table, events, free, book, request, list)
+    let tables = LentTables {
+        head: *head,
+        links,
+        events,
+        free,
+        book,
+    };
+    Listed::from(list_starts(&tables, request, list))
 }
 
 // Takes a booking out; its figures come back from the clock on. Refuses 1, 3, 4 and 9.
@@ -126,10 +121,14 @@ pub fn gcr_cancel(
         (result ≡ refusal_answer links.now t (ask (Ask.cancel number)))
         × (lent head.new events.new free.new book.new ≡ tables_after links.now t (ask (Ask.cancel number))) }
 {
-    let table = link_table(links);
-    let out = cancel(*head, table, events, free, book, number);
-    *head = out.head;
-    out.refusal
+    let mut desk = Desk {
+        head,
+        links,
+        events,
+        free,
+        book,
+    };
+    refusal_number(cancel(&mut desk, number))
 }
 
 // Moves the clock on; bookings whose end is at or before it are dropped. Refuses 1, 3, 4 and 10.
@@ -145,10 +144,14 @@ pub fn gcr_move_clock(
         (result ≡ refusal_answer links.now t (ask (Ask.move_clock minute.0)))
         × (lent head.new events.new free.new book.new ≡ tables_after links.now t (ask (Ask.move_clock minute.0))) }
 {
-    let table = link_table(links);
-    let out = move_clock(*head, table, events, free, book, minute);
-    *head = out.head;
-    out.refusal
+    let mut desk = Desk {
+        head,
+        links,
+        events,
+        free,
+        book,
+    };
+    refusal_number(move_clock(&mut desk, minute))
 }
 
 // The bandwidth that a link has free in a minute; it writes no table. Refuses 1, 3 and 4.
@@ -163,6 +166,12 @@ pub fn gcr_show(
 ) -> Shown
     ensures { result ≡ shown_answer links.now (lent head.now events.now free.now book.now) (ask (Ask.show link.0 minute.0)) }
 {
-    let table = link_table(links);
-    show(*head, table, events, free, book, link, minute)
+    let tables = LentTables {
+        head: *head,
+        links,
+        events,
+        free,
+        book,
+    };
+    Shown::from(show(&tables, link, minute))
 }

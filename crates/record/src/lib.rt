@@ -3,14 +3,13 @@
 #![tactic(auto)]
 
 ghost use Rattle.std.specs.Prelude.{◌≡◌, length};
-ghost use Rattle.units.specs.Refusals.{number_of};
 ghost use Rattle.layout.specs.Records.{order_read, link_read};
 ghost use Rattle.layout.specs.Forms.{latest_from, form_of, order_refusal, order_written, link_refusal, link_written};
 ghost use Rattle.layout.specs.Values.{order_values, link_values};
 
 use layout::{LinkRecord, OrderForm, OrderRecord, Wish};
 use reading::{read_link, read_order};
-use units::{Link, Minute, Refusal, Request};
+use units::{Link, Minute, Request, refusal_number};
 use writing::{write_link, write_order};
 
 // Reads an order for C.
@@ -52,13 +51,6 @@ fn form_of(kind: u32, number: u32, request: Request, flag: u32) -> OrderForm
     }
 }
 
-// The number of what writing found: 0, or that of the refusal.
-fn number_of(written: Result<(), Refusal>) -> u32
-    ensures { result ≡ number_of written }
-{
-    written.err().map_or(0, u32::from)
-}
-
 // Writes an order for C. A `latest_open` other than 0 is an open latest start, and the request's minute is not looked at.
 pub fn gcr_write_order(
     bytes: &mut [u8],
@@ -70,7 +62,7 @@ pub fn gcr_write_order(
     ensures value { result ≡ order_refusal (length bytes.old) (form_of kind number request latest_open) }
     ensures bytes_after { bytes.new ≡ order_written bytes.old (form_of kind number request latest_open) }
 {
-    number_of(write_order(bytes, form_of(kind, number, request, latest_open)))
+    refusal_number(write_order(bytes, form_of(kind, number, request, latest_open)))
 }
 
 // Writes a link for C.
@@ -78,5 +70,5 @@ pub fn gcr_write_link(bytes: &mut [u8], link: Link) -> u32
     ensures value { result ≡ link_refusal (length bytes.old) link }
     ensures bytes_after { bytes.new ≡ link_written bytes.old link }
 {
-    number_of(write_link(bytes, link))
+    refusal_number(write_link(bytes, link))
 }

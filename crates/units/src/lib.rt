@@ -5,7 +5,7 @@
 
 ghost use Rattle.std.specs.Prelude.{◌≡◌, ℕ, ◌++◌, ◌-◌, ◌≤◌, ◌<◌, length, take, replicate};
 ghost use Rattle.units.specs.Limits.{most_links, last_shown};
-ghost use Rattle.units.specs.Refusals.{number};
+ghost use Rattle.units.specs.Refusals.{number, number_of};
 ghost use Rattle.units.specs.Spans.{low_of, span_of, most_span, release};
 ghost use Rattle.units.specs.declared.Link.{Link};
 ghost use Rattle.units.specs.Columns.{column, Reads};
@@ -109,6 +109,13 @@ impl From<Refusal> for u32 {
     fn from(refusal: Refusal) -> u32 {
         refusal as u32
     }
+}
+
+// The number of an answer with nothing beside it: 0, or that of its refusal.
+pub fn refusal_number(answer: Result<(), Refusal>) -> u32
+    ensures { result ≡ number_of answer }
+{
+    answer.err().map_or(0, u32::from)
 }
 
 // A point in time, in whole minutes.
