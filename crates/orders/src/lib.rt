@@ -33,10 +33,9 @@ fn carry_out(bytes: &[u8], desk: &mut Desk<'_>) -> Result<Answered, Refusal>
     match read_order(bytes)? {
         Order::Book(number, wish) => {
             let granted = make_booking(desk, number, Request::from(wish))?;
-            let path = granted.path;
             Ok(Answered {
                 report: Report::Booked(number, granted.start),
-                path,
+                path: granted.path,
             })
         }
         Order::Cancel(number) => {
@@ -55,10 +54,9 @@ fn carry_out(bytes: &[u8], desk: &mut Desk<'_>) -> Result<Answered, Refusal>
         }
         Order::Offer(wish) => {
             let granted = offer(&desk.tables(), Request::from(wish))?;
-            let path = granted.path;
             Ok(Answered {
                 report: Report::Offered(granted.start),
-                path,
+                path: granted.path,
             })
         }
     }
