@@ -1,0 +1,2 @@
+-- What the columns of a list say of a call.
+pub mod Columns
