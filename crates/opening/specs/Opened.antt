@@ -1,13 +1,12 @@
 -- Document 01's start of a session: the first byte, the links, then the set-up, each check in its order.
-use Rattle.std.specs.Prelude.{◌≡◌, List, [], map, Bool, ℕ, ◌+◌, ◌*◌, leb, eqb, length, get_or, take, drop, Result, IfOk, is_err}
+use Rattle.std.specs.Prelude.{List, [], map, Bool, ℕ, ◌+◌, ◌*◌, leb, eqb, length, get_or, take, drop, Result, Ok, Err, is_err}
 use Rattle.units.specs.declared.Link.{Link}
 use Rattle.units.specs.Limits.{most_links}
 use Rattle.units.specs.Lists.{within, count_from}
 use Rattle.units.specs.Search as search
-use Rattle.units.specs.declared.LinkTable.{LinkTable}
 use Rattle.units.specs.declared.Refusal.{Refusal}
 use Rattle.layout.specs.Layout.{lead_bytes, link_bytes}
-use Rattle.units.specs.Refusals.{bad_size, bad_length, number_of}
+use Rattle.units.specs.Refusals.{bad_size, bad_length, number, number_of}
 use Rattle.layout.specs.Records.{if_passed, link_read}
 use Rattle.layout.specs.Values.{link_values}
 use Rattle.report.specs.declared.Report.{Report}
@@ -16,8 +15,6 @@ use Rattle.histories.specs.Kinds as kinds
 use Rattle.rules.specs.Calls.{set_up, values}
 use Rattle.rules.specs.Tables.{Tables}
 use Rattle.rules.specs.Desk.{Outcome, outcome}
-use Rattle.units.specs.LinkTables.{links_of}
-use Rattle.opening.specs.declared.Opened.{Opened as OpenedDesk}
 
 -- what the record of link i, behind the first byte, is read as
 unfoldable pub link_record : List ℕ → ℕ → Result Link Refusal
@@ -69,15 +66,7 @@ by_set_up t links = with_outcome links (outcome links t set_up)
 unfoldable pub opened : Tables → List ℕ → Opened
 opened t bytes = if_passed (eqb (bytes_refusal bytes) 0) (by_set_up t (links_in bytes (first_byte bytes))) (record { answer = record { refusal = bytes_refusal bytes; links = [] }; tables = t })
 
--- the answer to the start, as it is handed back
-abbrev pub told_by : OpenedDesk → Told
-told_by r = record { refusal = r.refusal; links = links_of r.links }
-
--- a refusal of this number, and where it is 0 these links
-pub record Found (refusal : ℕ) (links : List Link) (r : Result LinkTable Refusal) : Type 0 where
-  pub refusal_is : number_of r ≡ refusal
-  pub links_are : IfOk r (λ table. links_of table ≡ links)
-
 -- 'on refusal it writes `desk refused N`', otherwise `desk links N`
-abbrev pub desk_report : ℕ → ℕ → Report
-desk_report refusal links = if_passed (eqb refusal 0) (DeskLinks links) (DeskRefused refusal)
+abbrev pub desk_report : Result ℕ Refusal → Report
+desk_report (Ok links) = DeskLinks links
+desk_report (Err refusal) = DeskRefused (number refusal)

@@ -2,45 +2,39 @@
 // nothing itself. Every input is answered.
 #![tactic(auto)]
 
-ghost use Rattle.std.specs.Prelude.{◌≡◌, [], ◌+◌, ◌*◌, ◌≤◌, length};
-ghost use Rattle.units.specs.Limits.{most_links};
+ghost use Rattle.std.specs.Prelude.{◌≡◌, [], ◌+◌, ◌*◌, ◌≤◌, length, IfOk};
+ghost use Rattle.units.specs.Refusals.{number_of};
 ghost use Rattle.layout.specs.Layout.{lead_bytes, link_bytes};
 ghost use Rattle.rules.specs.Tables.{lent};
 ghost use Rattle.report.specs.Line.{line, max_line};
 ghost use Rattle.report.specs.Written.{Wrote};
-ghost use Rattle.opening.specs.Opened.{links_refusal, links_in, first_byte, bytes_refusal, opened, told_by, Found, desk_report};
+ghost use Rattle.opening.specs.Opened.{links_refusal, links_in, first_byte, bytes_refusal, opened, desk_report};
 
 use desk_core::set_up;
 use layout::{LEAD_BYTES, LINK_BYTES};
+use lent::Desk;
 use reading::read_link;
 use report::{Report, write_line};
-use units::{Head, LINKS, LinkTable, Refusal, empty_table, put};
+use units::{Head, LINKS, Link, Refusal};
 
-// A desk that was opened: the refusal number, 0 if there is none, its head and its links.
-#[derive(Clone, Copy)]
-pub struct Opened {
-    pub refusal: u32,
-    pub head: Head,
-    pub links: LinkTable,
-}
-
-// Reads `count` link records in turn, up to the first that cannot be read.
-fn read_links(bytes: &[u8], count: usize) -> Result<LinkTable, Refusal>
-    requires count_le_most_links { count ≤ most_links }
-    requires link_bytes_in_bounds { lead_bytes + count * link_bytes ≤ length bytes.now }
-    ensures { Found (links_refusal bytes.now count) (links_in bytes.now count) result }
+// Reads a link record for each place in turn, up to the first that cannot be read.
+fn read_links(bytes: &[u8], links: &mut [Link]) -> Result<(), Refusal>
+    requires { lead_bytes + length links.old * link_bytes ≤ length bytes.now }
+    ensures refusal { number_of result ≡ links_refusal bytes.now (length links.old) }
+    ensures links { IfOk result (λ _. links.new ≡ links_in bytes.now (length links.old)) }
 {
-    let mut table = empty_table(count);
     let (records, _) = bytes[LEAD_BYTES..].as_chunks::<LINK_BYTES>();
-    for (i, record) in records[..count].iter().enumerate() {
-        table = put(table, i, read_link(record)?);
+    for (i, record) in records[..links.len()].iter().enumerate() {
+        links[i] = read_link(record)?;
     }
-    Ok(table)
+    Ok(())
 }
 
 // The links of a session's first bytes: 12 without a first byte, 1 for its range, 12 for too few bytes, 11 for a record.
-fn session_links(bytes: &[u8]) -> Result<LinkTable, Refusal>
-    ensures { Found (bytes_refusal bytes.now) (links_in bytes.now (first_byte bytes.now)) result }
+#[tactic(auto, unfolding(crate::specs::Opened::bytes_refusal))]
+fn session_links<'a>(bytes: &[u8], places: &'a mut [Link; LINKS]) -> Result<&'a [Link], Refusal>
+    ensures refusal { number_of result ≡ bytes_refusal bytes.now }
+    ensures links { IfOk result (λ links. links.now ≡ links_in bytes.now (first_byte bytes.now)) }
 {
     let Some(&first) = bytes.first() else {
         return Err(Refusal::BadLength);
@@ -52,56 +46,53 @@ fn session_links(bytes: &[u8]) -> Result<LinkTable, Refusal>
     if bytes.len() < LEAD_BYTES + count * LINK_BYTES {
         return Err(Refusal::BadLength);
     }
-    read_links(bytes, count)
+    let links = &mut places[..count];
+    read_links(bytes, links)?;
+    Ok(links)
 }
 
-// Opens a desk from the first bytes of a session: the refusals of its links, then those of set-up.
-pub fn open_desk(
+// Opens a desk from the first bytes of a session and answers its links, which stand in the lent places: the refusals of the
+// links, then those of set-up.
+#[tactic(auto, unfolding(crate::specs::Opened::opened, desk_core::specs::Lent::refusal_answer, desk_core::specs::Lent::tables_after))]
+pub fn open_desk<'a>(
     bytes: &[u8],
-    head: Head,
+    places: &'a mut [Link; LINKS],
+    head: &mut Head,
     events: &mut [u32],
     free: &mut [u32],
     book: &mut [u32],
-) -> Opened
-    ensures { let t = lent head events.old free.old book.old in
-        (told_by result ≡ (opened t bytes.now).answer)
-        × (lent result.head events.new free.new book.new ≡ (opened t bytes.now).tables) }
+) -> Result<&'a [Link], Refusal>
+    ensures refusal { number_of result ≡ (opened (lent head.old events.old free.old book.old) bytes.now).answer.refusal }
+    ensures links { IfOk result (λ links. links.now ≡ (opened (lent head.old events.old free.old book.old) bytes.now).answer.links) }
+    ensures tables { lent head.new events.new free.new book.new ≡ (opened (lent head.old events.old free.old book.old) bytes.now).tables }
 {
-    let links = match session_links(bytes) {
-        Ok(links) => links,
-        Err(refusal) => {
-            return Opened {
-                refusal: u32::from(refusal),
-                head,
-                links: empty_table(0),
-            };
-        }
-    };
-    let outcome = set_up(head, links, events, free, book);
-    let after = outcome.head;
-    Opened {
-        refusal: outcome.refusal,
-        head: after,
+    let links = session_links(bytes, places)?;
+    let mut desk = Desk {
+        head,
         links,
-    }
+        events,
+        free,
+        book,
+    };
+    set_up(&mut desk)?;
+    Ok(links)
 }
 
-// What the desk's own line says.
-fn desk_report(refusal: u32, links: u32) -> Report
-    ensures { result ≡ desk_report refusal links }
+// What the desk's own line says of the count of its links, or of its refusal.
+fn desk_report(opened: Result<u32, Refusal>) -> Report
+    ensures { result ≡ desk_report opened }
 {
-    if refusal == 0 {
-        Report::DeskLinks(links)
-    } else {
-        Report::DeskRefused(refusal)
+    match opened {
+        Ok(links) => Report::DeskLinks(links),
+        Err(refusal) => Report::DeskRefused(u32::from(refusal)),
     }
 }
 
 // Writes the desk's own line at the start of a buffer.
-pub fn write_opened(out: &mut [u8], refusal: u32, links: u32) -> usize
+pub fn write_opened(out: &mut [u8], opened: Result<u32, Refusal>) -> usize
     requires { max_line ≤ length out.old }
-    ensures wrote { Wrote (line 0 (desk_report refusal links) []) out.old 0 out.new result }
+    ensures wrote { Wrote (line 0 (desk_report opened) []) out.old 0 out.new result }
     ensures upper_bound { result ≤ max_line }
 {
-    write_line(out, 0, 0, desk_report(refusal, links), &[])
+    write_line(out, 0, 0, desk_report(opened), &[])
 }

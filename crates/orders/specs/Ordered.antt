@@ -18,14 +18,9 @@ use Rattle.rules.specs.Tables.{Tables}
 use Rattle.rules.specs.Desk.{Outcome, outcome}
 use Rattle.orders.specs.declared.Answered.{Answered}
 
--- what an order is answered: what its line says, and the path beside it
-pub record Told : Type 0 where
-  pub report : Report
-  pub path : Path
-
--- that, and the tables that the order leaves
+-- what an order is answered, and the tables that it leaves
 abbrev pub Ordered : Type 0
-Ordered = kinds.Outcome Told Tables
+Ordered = kinds.Outcome Answered Tables
 
 -- the call that an order asks for; an open latest start is the last minute
 abbrev pub call_of : Order → Call
@@ -68,9 +63,10 @@ by_reading links t (Err refusal) = record { answer = record { report = reports.R
 unfoldable pub ordered : List Link → Tables → List ℕ → Ordered
 ordered links t bytes = by_reading links t (order_read bytes)
 
--- the answer to an order, as it is handed back
-abbrev pub told_by : Answered → Told
-told_by r = record { report = r.report; path = r.path }
+-- the answer of an order that was read, refused or not
+abbrev pub told : Result Answered Refusal → Answered
+told (Ok answer) = answer
+told (Err refusal) = record { report = reports.Refused (number refusal); path = path_of [] }
 
 -- document 01's line of an order at its place: the path's links in travel order
 abbrev pub line_of : ℕ → Ordered → List ℕ

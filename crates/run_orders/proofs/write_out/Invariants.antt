@@ -1,9 +1,0 @@
--- The first `done` bytes are taken.
-use Rattle.std.proofs.Common.{◌-◌, ◌≤◌, length}
-use Rattle.run_orders.proofs.write_out.Given as goal
-
-abbrev pub invariant-loop-done : goal.invariant-loop-done
-invariant-loop-done l = l.done ≤ length l.bytes
-
-abbrev pub decreases-loop-done : goal.decreases-loop-done
-decreases-loop-done l = length l.bytes - l.done
