@@ -11,7 +11,7 @@ use borrow.Author.Tests.{eqb-true, eq-eqb, ne_eqb}
 use Rattle.std.specs.Prelude.{Result, Ok, Err, is_ok}
 use Rattle.units.specs.declared.Link.{Link}
 use Rattle.units.specs.declared.Refusal.{Refusal}
-use Rattle.units.specs.Refusals.{number, number_of}
+use Rattle.units.specs.Refusals.{number_of}
 use Rattle.units.proofs.Refusals.{numbered}
 use Rattle.layout.specs.declared.OrderForm.{OrderForm}
 use Rattle.layout.specs.Layout.{pack, fits, spelled, order_widths, link_widths}

@@ -8,7 +8,6 @@ pub mod Choices
 pub mod Obeys
 pub mod Step
 pub mod Exits
-pub mod LinkColumns
 pub mod Numbers
 pub mod Standing
 pub mod Fine

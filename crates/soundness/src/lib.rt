@@ -18,14 +18,12 @@ use book::{Booking, booking_at};
 use checked::CheckedLinks;
 use lent::LentTables;
 use limits::{in_range, links_right};
+use path_search::NODES;
 use rebuild::rebuild;
 use units::{
     BOOKINGS, EVENTS, FREE_FIGURES, Head, MAX_BANDWIDTH, MAX_DURATION, MAX_MINUTE, MAX_NUMBER,
     PATH_LINKS, PLACE, release,
 };
-
-// The nodes that there may be: one more than the most links of a path.
-const NODES: usize = PATH_LINKS + 1;
 
 // Whether a booking's path has a link, each begins where the one before ended, and no node is met twice.
 fn path_right(links: CheckedLinks<'_>, booking: Booking) -> bool

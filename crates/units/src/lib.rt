@@ -1,15 +1,14 @@
 // The quantities of a reservation, each with a type of its own, the records that calls pass by value, and the limits
-// of document 01; its refusal numbers; the end of a span; links as columns; and zeros for what a table does not use. Every
-// crate uses them; nothing here decides anything.
+// of document 01; its refusals and their numbers; the end of a span; and a field of links as a column. Every crate uses them;
+// nothing here decides anything.
 #![tactic(auto)]
 
-ghost use Rattle.std.specs.Prelude.{◌≡◌, ℕ, ◌++◌, ◌-◌, ◌≤◌, ◌<◌, length, take, replicate};
-ghost use Rattle.units.specs.Limits.{most_links, last_shown};
+ghost use Rattle.std.specs.Prelude.{◌≡◌, ℕ, ◌≤◌};
+ghost use Rattle.units.specs.Limits.{last_shown};
 ghost use Rattle.units.specs.Refusals.{number, number_of};
 ghost use Rattle.units.specs.Spans.{low_of, span_of, most_span, release};
 ghost use Rattle.units.specs.declared.Link.{Link};
 ghost use Rattle.units.specs.Columns.{column, Reads};
-ghost use Rattle.units.specs.LinkTables.{empty_table, with_link, at_most_64};
 
 // The last node; nodes are numbered from 0.
 pub const LAST_NODE: u32 = 31;
@@ -57,33 +56,6 @@ pub const RANGES: usize = EVENTS;
 
 // The figures of the list of ranges: first and last of each.
 pub const LIST_FIGURES: usize = RANGES * 2;
-
-// The refusal numbers of documents 01 and 02; 0 is the number of an accepted call.
-pub const BAD_SIZE: u32 = 1;
-
-pub const BAD_LINK: u32 = 2;
-
-pub const UNSOUND: u32 = 3;
-
-pub const BAD_FIELD: u32 = 4;
-
-pub const TOO_LATE: u32 = 5;
-
-pub const NUMBER_STANDS: u32 = 6;
-
-pub const BOOK_FULL: u32 = 7;
-
-pub const NO_START: u32 = 8;
-
-pub const NOT_STANDING: u32 = 9;
-
-pub const CLOCK_BACK: u32 = 10;
-
-pub const BAD_BITS: u32 = 11;
-
-pub const BAD_LENGTH: u32 = 12;
-
-pub const BAD_LIST: u32 = 13;
 
 // Why a call is refused. As a number it is that of documents 01 and 02; 0 is the number of an accepted call.
 #[derive(Clone, Copy, Debug, PartialEq, Eq)]
@@ -209,39 +181,6 @@ pub fn release(head: Head, start: Minute, duration: Duration) -> u64
     end_of(start, span_of(head, duration))
 }
 
-// The list of links by value: its true length, and a column for each field of the first 64 links, zero past the last.
-#[derive(Clone, Copy)]
-pub struct LinkTable {
-    pub count: usize,
-    pub from: [u32; LINKS],
-    pub to: [u32; LINKS],
-    pub capacity: [u32; LINKS],
-}
-
-// The columns before a link is put into them, beside the count of links.
-pub fn empty_table(count: usize) -> LinkTable
-    ensures { result ≡ empty_table count }
-{
-    LinkTable {
-        count,
-        from: [0; LINKS],
-        to: [0; LINKS],
-        capacity: [0; LINKS],
-    }
-}
-
-// The columns with a link at place `i`.
-pub fn put(table: LinkTable, i: usize, link: Link) -> LinkTable
-    requires { i < most_links }
-    ensures { result ≡ with_link table i link }
-{
-    let mut filled = table;
-    filled.from[i] = link.from;
-    filled.to[i] = link.to;
-    filled.capacity[i] = link.capacity.0;
-    filled
-}
-
 // A field of the first 64 links of a list, zero past the last.
 pub fn column<F: Fn(&Link) -> u32>(links: &[Link], read: F) -> [u32; LINKS]
     requires { F.IsAlwaysCallable read }
@@ -252,35 +191,4 @@ pub fn column<F: Fn(&Link) -> u32>(links: &[Link], read: F) -> [u32; LINKS]
         column[i] = read(link);
     }
     column
-}
-
-// How many of `n` links the columns have a place for.
-pub fn at_most_64(n: usize) -> usize
-    ensures { result ≡ at_most_64 n }
-{
-    if n < LINKS { n } else { LINKS }
-}
-
-// Zeros from place `from` on.
-pub fn clear_from(table: &mut [u32], from: usize)
-    requires { from ≤ length table.old }
-    ensures { table.new ≡ take from table.old ++ replicate (length table.old - from) 0 }
-{
-    let mut i = from;
-    while i < table.len() {
-        table[i] = 0;
-        i += 1;
-    }
-}
-
-// Moves what stands in the part up by `by` places; the first of them keep what they held, and what has no room is dropped.
-pub fn shift_up(part: &mut [u32], by: usize)
-    requires { by ≤ length part.old }
-    ensures { part.new ≡ take by part.old ++ take (length part.old - by) part.old }
-{
-    let mut i = part.len();
-    while by < i {
-        i -= 1;
-        part[i] = part[i - by];
-    }
 }
