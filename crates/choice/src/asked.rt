@@ -4,7 +4,7 @@ ghost use Rattle.choice.specs.EventTables.{AreEvents};
 
 use crate::Granted;
 use crate::search::Search;
-use free_table::FreeTable;
+use free_table::{FreeTable, Interval};
 use path_search::{LinkSet, Network, Path};
 use units::{Minute, Refusal, end_minute};
 
@@ -28,8 +28,9 @@ impl Asked<'_, '_> {
     {
         let search = self.search;
         let end = end_minute(start, search.span);
+        let minutes = Interval { start, end };
         let usable = LinkSet {
-            has: self.table.lasting_links(start, end, search.bandwidth),
+            has: self.table.lasting_links(minutes, search.bandwidth),
         };
         let network = Network {
             ends: &search.ends,
@@ -45,11 +46,11 @@ impl Asked<'_, '_> {
         ensures { result ≡ chosen (choice_of self.now low.0 latest.0) }
     {
         for &event in self.table.events {
-            if latest.0 < event {
+            let start = Minute(event);
+            if latest < start {
                 return Err(Refusal::NoStart);
             }
-            if low.0 < event {
-                let start = Minute(event);
+            if low < start {
                 if let Some(path) = self.path_at(start) {
                     return Ok(Granted { start, path });
                 }
@@ -63,7 +64,7 @@ impl Asked<'_, '_> {
         requires { AskableOf self.now low.0 latest.0 }
         ensures { result ≡ chosen (choice_of self.now low.0 latest.0) }
     {
-        if latest.0 < low.0 {
+        if latest < low {
             return Err(Refusal::NoStart);
         }
         if let Some(path) = self.path_at(low) {

@@ -8,8 +8,10 @@ ghost use Rattle.timeline.specs.Events.{row_at};
 ghost use Rattle.free_table.specs.Figures.{all_free};
 ghost use Rattle.free_table.specs.Taking.{less_rows, less_span, Sized};
 
+mod interval;
 mod view;
 
+pub use interval::Interval;
 use timeline::row_at;
 use units::{Bandwidth, LinkNumber, Minute, ROW};
 pub use view::FreeTable;

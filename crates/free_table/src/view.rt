@@ -2,6 +2,7 @@
 
 ghost use Rattle.free_table.specs.Looking.{TablesSized};
 
+use crate::interval::Interval;
 use timeline::row_at;
 use units::{Bandwidth, LINKS, LinkNumber, Minute, ROW};
 
@@ -29,42 +30,33 @@ impl FreeTable<'_> {
         Bandwidth(self.figures[row * ROW + link.0 as usize])
     }
 
-    // The rows that hold in the minutes from start to end - 1.
+    // The rows that hold in the minutes of an interval.
     #[tactic(auto, using(timeline::proofs::Rows::row_inside, timeline::proofs::Rows::row_later))]
-    fn rows(&self, start: Minute, end: Minute) -> &[[u32; ROW]]
-        requires { start.0 < end.0 }
-        ensures { result.now ≡ span_rows self.now.events.now start.0 end.0 self.now.figures.now }
+    fn rows(&self, minutes: Interval) -> &[[u32; ROW]]
+        ensures { result.now ≡ span_rows self.now.events.now minutes.start.0 minutes.end.0 self.now.figures.now }
     {
-        let first = row_at(self.events, start);
-        let last = row_at(self.events, Minute(end.0 - 1));
+        let first = row_at(self.events, minutes.start);
+        let last = row_at(self.events, Minute(minutes.end.0 - 1));
         let (rows, _) = self.figures.as_chunks::<ROW>();
         &rows[first..=last]
     }
 
-    // Whether one link has the bandwidth free in every minute from start to end - 1.
-    pub fn has_bandwidth(
-        &self,
-        start: Minute,
-        end: Minute,
-        link: LinkNumber,
-        bandwidth: Bandwidth,
-    ) -> bool
-        requires link_exists { link.0 < most_links }
-        requires ends_later { start.0 < end.0 }
-        ensures { result ≡ enough_span self.now.events.now start.0 end.0 link.0 bandwidth.0 self.now.figures.now }
+    // Whether one link has the bandwidth free in every minute of an interval.
+    pub fn has_bandwidth(&self, minutes: Interval, link: LinkNumber, bandwidth: Bandwidth) -> bool
+        requires { link.0 < most_links }
+        ensures { result ≡ enough_span self.now.events.now minutes.start.0 minutes.end.0 link.0 bandwidth.0 self.now.figures.now }
     {
         let column = link.0 as usize;
-        self.rows(start, end)
+        self.rows(minutes)
             .iter()
             .all(|row| bandwidth.0 <= row[column])
     }
 
-    // The links that have the bandwidth free in every minute from start to end - 1.
-    pub fn lasting_links(&self, start: Minute, end: Minute, bandwidth: Bandwidth) -> [bool; LINKS]
-        requires { start.0 < end.0 }
-        ensures { Marks result (λ l. enough_span self.now.events.now start.0 end.0 l bandwidth.0 self.now.figures.now) }
+    // The links that have the bandwidth free in every minute of an interval.
+    pub fn lasting_links(&self, minutes: Interval, bandwidth: Bandwidth) -> [bool; LINKS]
+        ensures { Marks result (λ l. enough_span self.now.events.now minutes.start.0 minutes.end.0 l bandwidth.0 self.now.figures.now) }
     {
-        let rows = self.rows(start, end);
+        let rows = self.rows(minutes);
         let mut marked = [true; LINKS];
         for row in rows {
             for (link, mark) in marked.iter_mut().enumerate() {

@@ -8,7 +8,7 @@ ghost use Rattle.free_table.specs.Figures.{kept, all_free, Capacities};
 ghost use Rattle.free_table.specs.Taking.{less_span, Sized};
 ghost use Rattle.free_table.specs.Looking.{enough_span};
 
-use free_table::FreeTable;
+use free_table::{FreeTable, Interval};
 use units::{Bandwidth, LinkNumber, Minute};
 
 // The free table of a desk without bookings.
@@ -73,5 +73,5 @@ pub extern "C" fn has_bandwidth(
         events,
         figures: free,
     };
-    table.has_bandwidth(start, end, link, bandwidth)
+    table.has_bandwidth(Interval { start, end }, link, bandwidth)
 }

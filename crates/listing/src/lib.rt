@@ -25,7 +25,7 @@ fn next_start(asked: &Asked, end: Minute, latest: Minute) -> Option<Minute>
     requires end_impossible { (end.0 ≤ latest.0 → possible_of asked.now end.0 ≡ false) }
     ensures { result ≡ start_of (choice_of asked.now end.0 latest.0) }
 {
-    if latest.0 < end.0 {
+    if latest < end {
         return None;
     }
     start_granted(asked.choose_event(end, latest))

@@ -1,30 +1,24 @@
--- Looking and taking along a path, one link further: what a loop over its links has done after each.
+-- Along a path: a link of it is one that there may be, and what a loop that takes from each has done, one link further.
 use mathlib.Core.Path.{◌≡◌}
-use mathlib.Core.List.{List}
-use mathlib.Core.Bool.{true, false}
-use Prim.Native.Nat.{ℕ, ◌+◌, ◌≤◌, ◌<◌}
+use mathlib.Core.List.{List, [], ◌∷◌}
+use Prim.Native.Nat.{ℕ, zero, suc, ◌+◌, ◌≤◌, ◌<◌}
 use native.Mathlib.Numerals.{add-one}
+use native.Mathlib.Omega.{arith}
 use lib.ListN.{length, get_or, drop, drop_of_length-le}
 use lib.Seq.{drop-cons}
+use Rattle.units.specs.Limits.{most_links}
+use Rattle.units.specs.Lists.{All}
 use Rattle.free_table.specs.Taking.{less_span}
-use Rattle.free_table.specs.Looking.{enough_span}
-use Rattle.rebuild.specs.Rebuilding.{less_path, enough_path}
+use Rattle.rebuild.specs.Rebuilding.{less_path}
 
--- looking and taking from place i of the path on
+-- the link at place i of a path of such
+pub link_below : (path : List ℕ) (i l : ℕ) → All (λ x. x < most_links) path → i < length path → l ≡ get_or path i l → l < most_links
+link_below [] i l right h e = absurd (omega arith)
+link_below (x ∷ xs) zero l right h e = omega (arith, right.0, e)
+link_below (x ∷ xs) (suc i) l right h e = link_below xs i l right.1 (omega arith) e
+
+-- taking from place i of the path on
 module _ (es : List ℕ) (start end bandwidth : ℕ) (path : List ℕ) (i : ℕ) (t : List ℕ) where
-  pub enough_short : i < length path → enough_span es start end (get_or path i 0) bandwidth t ≡ false → enough_path es start end bandwidth (drop i path) t ≡ false
-  unfolding enough_path
-  enough_short h e = rw (drop-cons path i 0 h, e)
-
-  pub enough_next : i < length path → enough_span es start end (get_or path i 0) bandwidth t ≡ true
-      → enough_path es start end bandwidth (drop i path) t ≡ enough_path es start end bandwidth (drop (i + 1) path) t
-  unfolding enough_path
-  enough_next h e = rw (add-one, drop-cons path i 0 h, e)
-
-  pub enough_done : length path ≤ i → enough_path es start end bandwidth (drop i path) t ≡ true
-  unfolding enough_path
-  enough_done h = rw (drop_of_length-le path h)
-
   pub less_next : i < length path → less_path es start end bandwidth (drop i path) t ≡ less_path es start end bandwidth (drop (i + 1) path) (less_span es start end (get_or path i 0) bandwidth t)
   unfolding less_path
   less_next h = rw (add-one, drop-cons path i 0 h)

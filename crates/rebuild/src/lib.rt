@@ -2,7 +2,7 @@
 // cancelling, moving the clock and the soundness check go through all. Nothing here looks at whether a booking is right.
 #![tactic(auto)]
 
-ghost use Rattle.std.specs.Prelude.{◌≡◌, true, ◌↔◌, ◌<◌};
+ghost use Rattle.std.specs.Prelude.{◌≡◌, true, ◌↔◌};
 ghost use Rattle.units.specs.Limits.{most_links};
 ghost use Rattle.timeline.specs.Insertion.{with_span, with_span_rows, Room};
 ghost use Rattle.rules.specs.Tables.{held_by, event_table, free_table};
@@ -11,35 +11,31 @@ ghost use Rattle.free_table.specs.Looking.{TablesSized};
 ghost use Rattle.rebuild.specs.Rebuilding.{place_path, release_of, less_path, enough_path, PlaceRight, CanRebuild};
 
 use book::{Booking, booking_at};
-use free_table::{FreeTable, reset_free, take_bandwidth};
+use free_table::{FreeTable, Interval, reset_free, take_bandwidth};
 use timeline::{insert_span, reset_events};
 use units::{Head, Link, LinkNumber, Minute, column, release};
 
-// Whether every link of a booking's path has its bandwidth free from its start until a minute.
-#[tactic(auto, using(crate::proofs::Along::enough_short, crate::proofs::Along::enough_next, crate::proofs::Along::enough_done))]
-fn path_fits(table: FreeTable<'_>, b: Booking, until: Minute) -> bool
-    requires place_right { PlaceRight b }
-    requires ends_later { b.start.0 < until.0 }
-    ensures { result ≡ enough_path table.entry.events.now b.start.0 until.0 b.bandwidth.0 (place_path b) table.entry.figures.now }
+// Whether every link of a booking's path has its bandwidth free in every minute of an interval.
+fn path_fits(table: FreeTable<'_>, b: Booking, minutes: Interval) -> bool
+    requires { PlaceRight b }
+    ensures { result ≡ enough_path table.entry.events.now minutes.start.0 minutes.end.0 b.bandwidth.0 (place_path b) table.entry.figures.now }
 {
-    for &link in &b.links[..b.count as usize] {
-        if !table.has_bandwidth(b.start, until, LinkNumber(link), b.bandwidth) {
-            return false;
-        }
-    }
-    true
+    let path = &b.links[..b.count as usize];
+    let bandwidth = b.bandwidth;
+    path.iter()
+        .all(|&link| table.has_bandwidth(minutes, LinkNumber(link), bandwidth))
 }
 
-// Takes a booking's bandwidth from every link of its path from its start until a minute.
+// Takes a booking's bandwidth from every link of its path in every minute of an interval.
 #[tactic(auto, using(crate::proofs::Along::less_next, crate::proofs::Along::less_done))]
-fn take_path(events: &[u32], free: &mut [u32], b: Booking, until: Minute)
+fn take_path(events: &[u32], free: &mut [u32], b: Booking, minutes: Interval)
     requires sized { TablesSized events.now free.old }
     requires place_right { PlaceRight b }
-    requires ends_later { b.start.0 < until.0 }
-    ensures { free.new ≡ less_path events.now b.start.0 until.0 b.bandwidth.0 (place_path b) free.old }
+    ensures { free.new ≡ less_path events.now minutes.start.0 minutes.end.0 b.bandwidth.0 (place_path b) free.old }
 {
     for &link in &b.links[..b.count as usize] {
-        take_bandwidth(events, free, b.start, until, LinkNumber(link), b.bandwidth);
+        let link = LinkNumber(link);
+        take_bandwidth(events, free, minutes.start, minutes.end, link, b.bandwidth);
     }
 }
 
@@ -52,14 +48,15 @@ pub fn add_booking(head: Head, events: &mut [u32], free: &mut [u32], b: Booking)
         × (free.new ≡ less_path (with_span b.start.0 (release_of head b) events.old) b.start.0 (release_of head b) b.bandwidth.0 (place_path b) (with_span_rows most_links events.old b.start.0 (release_of head b) free.old))
         × (result ≡ enough_path (with_span b.start.0 (release_of head b) events.old) b.start.0 (release_of head b) b.bandwidth.0 (place_path b) (with_span_rows most_links events.old b.start.0 (release_of head b) free.old)) }
 {
-    let until = Minute(release(head, b.start, b.duration) as u32);
-    insert_span(events, free, b.start, until);
+    let end = Minute(release(head, b.start, b.duration) as u32);
+    let minutes = Interval { start: b.start, end };
+    insert_span(events, free, b.start, end);
     let table = FreeTable {
         events,
         figures: free,
     };
-    let fits = path_fits(table, b, until);
-    take_path(events, free, b, until);
+    let fits = path_fits(table, b, minutes);
+    take_path(events, free, b, minutes);
     fits
 }
 

@@ -92,7 +92,7 @@ pub fn refusal_number(answer: Result<(), Refusal>) -> u32
 
 // A point in time, in whole minutes.
 #[repr(C)]
-#[derive(Clone, Copy)]
+#[derive(Clone, Copy, PartialEq, Eq, PartialOrd, Ord)]
 pub struct Minute(pub u32);
 
 // A length of time, in whole minutes.
@@ -144,11 +144,7 @@ pub struct Head {
 pub fn low_minute(head: Head, request: Request) -> Minute
     ensures { result.0 ≡ low_of head request }
 {
-    if request.earliest.0 < head.clock.0 {
-        head.clock
-    } else {
-        request.earliest
-    }
+    request.earliest.max(head.clock)
 }
 
 // The minutes for which a booking of a duration holds its links.

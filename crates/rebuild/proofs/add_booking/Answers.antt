@@ -10,21 +10,11 @@ use Rattle.rebuild.specs.Rebuilding.{place_path, release_of, less_path, enough_p
 use Rattle.rebuild.proofs.add_booking.Goals as goal
 use Rattle.rebuild.proofs.add_booking.Goals.{After-insert_span}
 
--- the booking ends after it starts
-later : (c : After-insert_span) → c.args.b.start.0 < c.release.result
-later c = omega (arith, c.release.ensures, c.requires.place_right.duration_right.0)
-
 -- the tables with the two events
 opened : (c : After-insert_span) → let a = c.args in
     (c.insert_span.new.events ≡ with_span a.b.start.0 (release_of a.head a.b) a.events.now)
     × (c.insert_span.new.rows ≡ with_span_rows most_links a.events.now a.b.start.0 (release_of a.head a.b) a.free.now)
 opened c = rw (← c.release.ensures) c.insert_span.ensures
-
-pub path_fits-fits-requires : goal.path_fits-fits-requires
-path_fits-fits-requires c = record { place_right = search rules; ends_later = later (goal.at.path_fits-fits-requires c).After-insert_span }
-
-pub take_path-requires : goal.take_path-requires
-take_path-requires c = record { sized = search rules; place_right = search rules; ends_later = later (goal.at.take_path-requires c).After-insert_span }
 
 pub returns : goal.returns
 returns c =

@@ -1,16 +1,16 @@
 -- choose meets its contract: low, where it has a path; else the first event that has one.
 use mathlib.Core.Path.{sym, ◌∙◌, ap}
-use native.Mathlib.Omega.{arith}
 use Rattle.std.specs.Option.{is_some}
+use Rattle.units.proofs.Minutes.{earlier, not_earlier}
 use Rattle.choice.proofs.Exits.{possible_some, answer_empty, answer_low}
 use Rattle.choice.proofs.asked.Asked.choose.Goals as goal
 
-pub returns-then-latest-low : goal.returns-then-latest-low
-returns-then-latest-low c = answer_empty c.args.self.now c.args.low.0 c.args.latest.0 c.requires.not_past (omega (arith, c.if-latest-low.true))
+pub returns-then-lt : goal.returns-then-lt
+returns-then-lt c = answer_empty c.args.self.now c.args.low.0 c.args.latest.0 c.requires.not_past (earlier c.lt.ensures c.if-lt.true)
 
 pub returns-in-Some : goal.returns-in-Some
 returns-in-Some c =
-    answer_low c.args.self.now c.args.low.0 c.args.latest.0 c.requires.not_past (omega arith) c.path_at.result c.path_at.ensures c.in-Some.path c.in-Some.is
+    answer_low c.args.self.now c.args.low.0 c.args.latest.0 c.requires.not_past (not_earlier c.lt.ensures c.if-lt.false) c.path_at.result c.path_at.ensures c.in-Some.path c.in-Some.is
 
 pub choose_event-requires-clause-low_impossible : goal.choose_event-requires-clause-low_impossible
 choose_event-requires-clause-low_impossible c = sym (possible_some c.args.self.now c.args.low.0 c.path_at.result c.path_at.ensures) ∙ ap is_some c.in_default.is

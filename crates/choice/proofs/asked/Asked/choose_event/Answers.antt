@@ -5,20 +5,21 @@ use native.Mathlib.Omega.{arith}
 use lib.ListN.{get_or}
 use Rattle.std.specs.Option.{is_some}
 use Rattle.choice.specs.Answer.{possible_of}
+use Rattle.units.proofs.Minutes.{earlier, not_earlier}
 use Rattle.choice.proofs.Starts.{tried_next}
 use Rattle.choice.proofs.Exits.{possible_some, answer_event, answer_late, answer_left}
 use Rattle.choice.proofs.asked.Asked.choose_event.Goals as goal
-use Rattle.choice.proofs.asked.Asked.choose_event.Goals.{then-low-event+in_default, else-low-event}
+use Rattle.choice.proofs.asked.Asked.choose_event.Goals.{then-lt-2+in_default, else-lt-2}
 
-pub returns-then-latest-event : goal.returns-then-latest-event
-returns-then-latest-event c =
+pub returns-then-lt : goal.returns-then-lt
+returns-then-lt c =
     let l = c.loop-event in
-    answer_late c.args.self.now c.args.low.0 c.args.latest.0 c.requires.askable.not_past l.event-index l.invariant (omega (arith, c.if-latest-event.true))
+    answer_late c.args.self.now c.args.low.0 c.args.latest.0 c.requires.askable.not_past l.event-index l.invariant (earlier c.lt.ensures c.if-lt.true)
 
 pub returns-in-Some : goal.returns-in-Some
 returns-in-Some c =
     let l = c.loop-event in
-    answer_event c.args.self.now c.args.low.0 c.args.latest.0 c.requires.askable.not_past l.event-index l.invariant (omega (arith, c.if-low-event.true)) (omega (arith, c.if-latest-event.false)) c.path_at.result c.path_at.ensures c.in-Some.path c.in-Some.is
+    answer_event c.args.self.now c.args.low.0 c.args.latest.0 c.requires.askable.not_past l.event-index l.invariant (earlier c.lt-in-loop-event.ensures c.if-lt-2.true) (not_earlier c.lt.ensures c.if-lt.false) c.path_at.result c.path_at.ensures c.in-Some.path c.in-Some.is
 
 pub loop-event-preserved : goal.loop-event-preserved
 loop-event-preserved c =
@@ -27,9 +28,9 @@ loop-event-preserved c =
     rw add-one
     (tried_next (possible_of a) a.table.events.now c.args.low.0 c.args.latest.0 l.event-index l.invariant
     (λ after in_time.
-    elim c.if-low-event.branch [
-      | then-low-event+in_default w ↦ sym (possible_some a (get_or a.table.events.now l.event-index 0) w.path_at.result w.path_at.ensures) ∙ ap is_some w.in_default.is
-      | else-low-event w ↦ absurd (omega (arith, w.if-low-event.false))
+    elim c.if-lt-2.branch [
+      | then-lt-2+in_default w ↦ sym (possible_some a (get_or a.table.events.now l.event-index 0) w.path_at.result w.path_at.ensures) ∙ ap is_some w.in_default.is
+      | else-lt-2 w ↦ absurd (omega (arith, not_earlier {a = c.args.low.0} {b = get_or a.table.events.now l.event-index 0} c.lt-in-loop-event.ensures w.if-lt-2.false))
     ]))
 
 pub returns : goal.returns

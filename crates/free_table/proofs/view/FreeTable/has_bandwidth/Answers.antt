@@ -12,4 +12,4 @@ returns c =
     let a = c.args in
     all_from_yields_List (enough_in a.link.0 a.bandwidth.0) _ _ _ c.all.ensures.ran (YieldsList-from_slice c.rows.result.now (cc)) (λ x b q k. search (rules, tests))
     ∙ ap (list_all (enough_in a.link.0 a.bandwidth.0)) c.rows.ensures
-    ∙ enough_in_span a.link.0 a.bandwidth.0 a.self.now.events.now a.start.0 a.end.0 a.self.now.figures.now c.requires.link_exists
+    ∙ enough_in_span a.link.0 a.bandwidth.0 a.self.now.events.now a.minutes.start.0 a.minutes.end.0 a.self.now.figures.now c.requires

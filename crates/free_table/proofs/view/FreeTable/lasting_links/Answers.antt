@@ -16,4 +16,4 @@ returns c l h =
     let rows = c.rows-rows.result.now in
     c.loop-row.invariant l h
     ∙ ap (list_all (enough_in l a.bandwidth.0)) (take_all c.loop-row.row-index rows (omega arith) ∙ c.rows-rows.ensures)
-    ∙ enough_in_span l a.bandwidth.0 a.self.now.events.now a.start.0 a.end.0 a.self.now.figures.now h
+    ∙ enough_in_span l a.bandwidth.0 a.self.now.events.now a.minutes.start.0 a.minutes.end.0 a.self.now.figures.now h

@@ -11,7 +11,7 @@ returns c =
     let es = a.self.now.events.now in
     let t = a.self.now.figures.now in
     let sized = a.self.now.sized in
-    let inside : row_at es (a.end.0 - 1) < length t / 64 = omega (arith, row_inside (a.end.0 - 1) es sized.some, sized.free_sized) in
+    let inside : row_at es (a.minutes.end.0 - 1) < length t / 64 = omega (arith, row_inside (a.minutes.end.0 - 1) es sized.some, sized.free_sized) in
     ap₂ (λ i j. take (j + 1 - i) (drop i c.as_chunks.result.0.now)) c.row_at-first.ensures c.row_at-last.ensures
-    ∙ ap (λ rows. take (row_at es (a.end.0 - 1) + 1 - row_at es a.start.0) (drop (row_at es a.start.0) rows)) c.as_chunks.ensures.front
-    ∙ rows_are es a.start.0 a.end.0 t (length t / 64) (row_later a.start.0 (a.end.0 - 1) es (omega arith)) inside
+    ∙ ap (λ rows. take (row_at es (a.minutes.end.0 - 1) + 1 - row_at es a.minutes.start.0) (drop (row_at es a.minutes.start.0) rows)) c.as_chunks.ensures.front
+    ∙ rows_are es a.minutes.start.0 a.minutes.end.0 t (length t / 64) (row_later a.minutes.start.0 (a.minutes.end.0 - 1) es (omega arith)) inside
