@@ -3,7 +3,6 @@
 #![tactic(auto)]
 
 ghost use Rattle.std.specs.Prelude.{◌≡◌};
-ghost use Rattle.units.specs.Lists.{within};
 ghost use Rattle.rules.specs.Calls.{ends_ok, request_ok};
 ghost use Rattle.rules.specs.Tables.{link_ok, links_ok, sized};
 ghost use Rattle.lent.specs.Lent.{tables_in};
@@ -13,13 +12,6 @@ use units::{
     BOOK_FIGURES, EVENTS, FREE_FIGURES, LAST_NODE, LINKS, Link, MAX_BANDWIDTH, MAX_DURATION,
     MAX_MINUTE, Request,
 };
-
-// Whether a figure is in range, both ends counted.
-pub fn in_range(low: u32, high: u32, figure: u32) -> bool
-    ensures { result ≡ within low high figure }
-{
-    (low..=high).contains(&figure)
-}
 
 // Whether two nodes are in range and differ.
 pub fn ends_ok(from: u32, to: u32) -> bool
@@ -32,7 +24,7 @@ pub fn ends_ok(from: u32, to: u32) -> bool
 fn link_right(link: &Link) -> bool
     ensures { result ≡ link_ok link.now }
 {
-    ends_ok(link.from, link.to) && in_range(1, MAX_BANDWIDTH, link.capacity.0)
+    ends_ok(link.from, link.to) && (1..=MAX_BANDWIDTH).contains(&link.capacity.0)
 }
 
 // Whether every link has nodes in range that differ and a capacity in range.
@@ -47,8 +39,8 @@ pub fn request_ok(request: Request) -> bool
     ensures { result ≡ request_ok request }
 {
     ends_ok(request.from, request.to)
-        && in_range(1, MAX_BANDWIDTH, request.bandwidth.0)
-        && in_range(1, MAX_DURATION, request.duration.0)
+        && (1..=MAX_BANDWIDTH).contains(&request.bandwidth.0)
+        && (1..=MAX_DURATION).contains(&request.duration.0)
         && request.earliest.0 <= MAX_MINUTE
         && request.latest.0 <= MAX_MINUTE
 }
