@@ -6,7 +6,7 @@ use Prim.Native.Nat.{◌<◌}
 use native.Mathlib.Omega.{arith}
 use borrow.Author.Tests.{ne_eqb}
 use Rattle.histories.specs.Checks.{checked}
-use Rattle.histories.specs.Kinds.{Call, set_up_with, ask, Outcome, Kind, answer, answer_on, call_writes, left_by, outcome, all_checks}
+use Rattle.histories.specs.Kinds.{Call, set_up_with, ask, Kind, answer, answer_on, call_writes, left_by, outcome, all_checks}
 use Rattle.histories.proofs.Checks.{checked_append}
 
 module _ (K : Kind) (links : List K.Link) (t : K.Tables) (c : Call K.Start K.Ask) where
@@ -25,13 +25,6 @@ module _ (K : Kind) (links : List K.Link) (t : K.Tables) (c : Call K.Start K.Ask
       stays : (w : Bool) → by w false a ≡ t
       stays true = refl
       stays false = refl
-
--- what is handed back is an outcome's: the answer, and the tables
-abbrev pub Gives : {Answer Tables : Type 0} → Answer → Tables → Outcome Answer Tables → Type 0
-Gives a t o = (a ≡ o.answer) × (t ≡ o.tables)
-
-pub gives_of : {X Answer Tables : Type 0} (f : X → Outcome Answer Tables) {x y : X} {a : Answer} {t : Tables} → x ≡ y → Gives a t (f x) → Gives a t (f y)
-gives_of f e g = (g.0 ∙ ap (λ z. (f z).answer) e, g.1 ∙ ap (λ z. (f z).tables) e)
 
 -- the answer of a call that passes every check
 abbrev pub final : (K : Kind) → List K.Link → K.Plain → Call K.Start K.Ask → K.Answer

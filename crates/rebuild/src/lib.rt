@@ -22,8 +22,7 @@ fn path_fits(table: FreeTable<'_>, b: Booking, minutes: Interval) -> bool
 {
     let path = &b.links[..b.count as usize];
     let bandwidth = b.bandwidth;
-    path.iter()
-        .all(|&link| table.has_bandwidth(minutes, LinkNumber(link), bandwidth))
+    path.iter().all(|&link| table.has_bandwidth(minutes, LinkNumber(link), bandwidth))
 }
 
 // Takes a booking's bandwidth from every link of its path in every minute of an interval.
@@ -49,7 +48,10 @@ pub fn add_booking(head: Head, events: &mut [u32], free: &mut [u32], b: Booking)
         × (result ≡ enough_path (with_span b.start.0 (release_of head b) events.old) b.start.0 (release_of head b) b.bandwidth.0 (place_path b) (with_span_rows most_links events.old b.start.0 (release_of head b) free.old)) }
 {
     let end = Minute(release(head, b.start, b.duration) as u32);
-    let minutes = Interval { start: b.start, end };
+    let minutes = Interval {
+        start: b.start,
+        end,
+    };
     insert_span(events, free, b.start, end);
     let table = FreeTable {
         events,

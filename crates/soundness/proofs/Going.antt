@@ -44,9 +44,6 @@ marks_more marks met v h m n k = by (order n v)
 -- ---- the links of a path
 
 module _ (g : Graph) (path : List ℕ) where
-  pub path_none : length path < 1 → path_ok g path ≡ false
-  path_none h = simp (lt-leb 1 (length path) h)
-
   pub path_some : 1 ≤ length path → length path ≤ most_hops → path_ok g path ≡ goes_on g (first_node g path) (first_node g path ∷ []) path
   path_some h k = simp (le-leb 1 (length path) h, le-leb (length path) most_hops k)
 

@@ -1,9 +1,7 @@
 -- `add_booking` meets its contract: the path is looked at and taken from on the tables with the two events.
 use mathlib.Core.Path.{◌≡◌, ap₂, ◌∙◌}
 use mathlib.Core.List.{List}
-use Prim.Native.Nat.{ℕ, ◌<◌}
-use native.Mathlib.Omega.{arith}
-use borrow.Author.Rules.{rules}
+use Prim.Native.Nat.{ℕ}
 use Rattle.units.specs.Limits.{most_links}
 use Rattle.timeline.specs.Insertion.{with_span, with_span_rows}
 use Rattle.rebuild.specs.Rebuilding.{place_path, release_of, less_path, enough_path}
