@@ -1,5 +1,7 @@
-// The seven calls of a desk in the static library that C links: the functions of `desk` under their own names, each with the
-// clauses that it has there. `include/gcr_desk.h` declares them.
+// The seven calls of a desk in the static library that C links, in the forms that document 01 names: the links lent for reading
+// as a list of records, the head lent and renewed where it stands, events, free figures and book as lent slices. Each call hands
+// what it is lent to its core in `desk_core` and makes the answer for C; nothing is decided here. Every call is answered for
+// every input. `include/gcr_desk.h` declares them.
 #![tactic(auto)]
 
 ghost use Rattle.std.specs.Prelude.{◌≡◌, length};
@@ -8,8 +10,11 @@ ghost use Rattle.rules.specs.Tables.{lent};
 ghost use Rattle.desk_core.specs.Lent.{choice_answer, listed_answer, list_after, shown_answer, refusal_answer, tables_after};
 
 use choice::ChoiceRecord;
-use desk_core::{Listed, Shown};
-use units::{Head, Link, LinkNumber, Minute, Request};
+use desk_core::{
+    Listed, Shown, cancel, list_starts, make_booking, move_clock, offer, set_up, show,
+};
+use lent::{Desk, LentTables};
+use units::{Head, Link, LinkNumber, Minute, Request, refusal_number};
 
 // Sets a desk up at minute 0, with no bookings and all capacity free, whatever the tables held. Refuses 1 and 2.
 #[unsafe(no_mangle)]
@@ -24,7 +29,14 @@ pub extern "C" fn gcr_set_up(
         (result ≡ refusal_answer links.now t set_up)
         × (lent head.new events.new free.new book.new ≡ tables_after links.now t set_up) }
 {
-    desk::gcr_set_up(head, links, events, free, book)
+    let mut desk = Desk {
+        head,
+        links,
+        events,
+        free,
+        book,
+    };
+    refusal_number(set_up(&mut desk))
 }
 
 // Books the earliest start of the request's window. Refuses 1, 3, 4, 5, 6, 7 and 8.
@@ -42,7 +54,14 @@ pub extern "C" fn gcr_book(
         (result ≡ choice_answer links.now t (ask (Ask.book number request)))
         × (lent head.new events.new free.new book.new ≡ tables_after links.now t (ask (Ask.book number request))) }
 {
-    desk::gcr_book(head, links, events, free, book, number, request)
+    let mut desk = Desk {
+        head,
+        links,
+        events,
+        free,
+        book,
+    };
+    ChoiceRecord::from(make_booking(&mut desk, number, request))
 }
 
 // A booking without commitment or number; it writes no table. Refuses 1, 3, 4, 5 and 8.
@@ -57,7 +76,14 @@ pub extern "C" fn gcr_offer(
 ) -> ChoiceRecord
     ensures { result ≡ choice_answer links.now (lent head.now events.now free.now book.now) (ask (Ask.offer request)) }
 {
-    desk::gcr_offer(head, links, events, free, book, request)
+    let tables = LentTables {
+        head: *head,
+        links,
+        events,
+        free,
+        book,
+    };
+    ChoiceRecord::from(offer(&tables, request))
 }
 
 // Every start there is: the ranges of possible start minutes of an offer's window, first and last of each, written into the
@@ -76,7 +102,14 @@ pub extern "C" fn gcr_list_starts(
         (result ≡ listed_answer links.now t (ask (Ask.list (length list.old) request)))
         × (list.new ≡ list_after links.now t (ask (Ask.list (length list.old) request)) list.old) }
 {
-    desk::gcr_list_starts(head, links, events, free, book, request, list)
+    let tables = LentTables {
+        head: *head,
+        links,
+        events,
+        free,
+        book,
+    };
+    Listed::from(list_starts(&tables, request, list))
 }
 
 // Takes a booking out; its figures come back from the clock on. Refuses 1, 3, 4 and 9.
@@ -93,7 +126,14 @@ pub extern "C" fn gcr_cancel(
         (result ≡ refusal_answer links.now t (ask (Ask.cancel number)))
         × (lent head.new events.new free.new book.new ≡ tables_after links.now t (ask (Ask.cancel number))) }
 {
-    desk::gcr_cancel(head, links, events, free, book, number)
+    let mut desk = Desk {
+        head,
+        links,
+        events,
+        free,
+        book,
+    };
+    refusal_number(cancel(&mut desk, number))
 }
 
 // Moves the clock on; bookings whose end is at or before it are dropped. Refuses 1, 3, 4 and 10.
@@ -110,7 +150,14 @@ pub extern "C" fn gcr_move_clock(
         (result ≡ refusal_answer links.now t (ask (Ask.move_clock minute.0)))
         × (lent head.new events.new free.new book.new ≡ tables_after links.now t (ask (Ask.move_clock minute.0))) }
 {
-    desk::gcr_move_clock(head, links, events, free, book, minute)
+    let mut desk = Desk {
+        head,
+        links,
+        events,
+        free,
+        book,
+    };
+    refusal_number(move_clock(&mut desk, minute))
 }
 
 // The bandwidth that a link has free in a minute; it writes no table. Refuses 1, 3 and 4.
@@ -126,5 +173,12 @@ pub extern "C" fn gcr_show(
 ) -> Shown
     ensures { result ≡ shown_answer links.now (lent head.now events.now free.now book.now) (ask (Ask.show link.0 minute.0)) }
 {
-    desk::gcr_show(head, links, events, free, book, link, minute)
+    let tables = LentTables {
+        head: *head,
+        links,
+        events,
+        free,
+        book,
+    };
+    Shown::from(show(&tables, link, minute))
 }

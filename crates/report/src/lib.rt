@@ -1,13 +1,12 @@
 // An answer as the bytes of its line, exactly as document 01 prints it, written into a buffer that the caller lends. The
-// program calls `write_line`; the tests and a program in C call `gcr_write_line`. Nothing here knows a desk or decides an
-// answer. `report_c` exports `gcr_write_line`.
+// program calls `write_line`; `report_c` exports it for the tests and a program in C. Nothing here knows a desk or decides an
+// answer.
 #![tactic(auto)]
 
 ghost use Rattle.std.specs.Prelude.{◌≡◌, ◌++◌, ◌+◌, ◌≤◌, length};
 ghost use Rattle.units.specs.Limits.{most_hops};
 ghost use Rattle.report.specs.Decimal.{decimal};
-ghost use Rattle.report.specs.Line.{numbers, route, answer, line, max_line, has_room, if_room};
-ghost use Rattle.report.specs.Kinds.{report_of};
+ghost use Rattle.report.specs.Line.{numbers, route, answer, line, max_line, has_room};
 ghost use Rattle.report.specs.Written.{Wrote, HasRoom, Writes};
 
 use itoa::write_digits;
@@ -15,19 +14,6 @@ use units::{Minute, PATH_LINKS};
 
 // The bytes of the longest line: a place of 20 digits, two figures and 31 links of 10, and the words of a booking.
 pub const MAX_LINE: usize = 20 + 10 + 10 + PATH_LINKS * 11 + 22;
-
-// The kinds of a line for a program in another language; any other number is a refused order.
-const DESK_LINKS: u32 = 0;
-
-const DESK_REFUSED: u32 = 1;
-
-const BOOKED: u32 = 2;
-
-const OFFERED: u32 = 3;
-
-const CANCELLED: u32 = 4;
-
-const CLOCK: u32 = 5;
 
 // What a line says. The order's place and the path stand beside it. A refusal stands as its number, since a program in
 // another language hands any figure over.
@@ -149,44 +135,10 @@ pub fn write_line(out: &mut [u8], at: usize, place: u64, report: Report, links: 
     writer.at
 }
 
-// The report of a kind with its figure and its minute; the figure is a count, a booking number or a refusal number.
-#[tactic(auto, unfolding(crate::specs::Kinds::report_of))]
-fn report_of(kind: u32, figure: u32, minute: Minute) -> Report
-    ensures { result ≡ report_of kind figure minute }
-{
-    match kind {
-        DESK_LINKS => Report::DeskLinks(figure),
-        DESK_REFUSED => Report::DeskRefused(figure),
-        BOOKED => Report::Booked(figure, minute),
-        OFFERED => Report::Offered(minute),
-        CANCELLED => Report::Cancelled(figure),
-        CLOCK => Report::Clock(minute),
-        _ => Report::Refused(figure),
-    }
-}
-
-// Whether a buffer of `size` bytes has room for any line from index `at` on, and a path this many links.
-fn has_room(size: usize, at: usize, links: usize) -> bool
+// Whether `write_line` may be called: a buffer of `size` bytes has room for any line from index `at` on, and a path this many
+// links.
+pub fn has_room(size: usize, at: usize, links: usize) -> bool
     ensures { result ≡ has_room size at links }
 {
     MAX_LINE <= size && at <= size - MAX_LINE && links <= PATH_LINKS
-}
-
-// Writes a line as `write_line` does, for a program in another language: the report by its kind. Where there is no room
-// for the longest line or the path is too long it writes nothing and answers `at`.
-pub fn gcr_write_line(
-    out: &mut [u8],
-    at: usize,
-    place: u64,
-    kind: u32,
-    figure: u32,
-    minute: Minute,
-    links: &[u32],
-) -> usize
-    ensures { Wrote (if_room (has_room (length out.old) at (length links.now)) (line place (report_of kind figure minute) links.now)) out.old at out.new result }
-{
-    if !has_room(out.len(), at, links.len()) {
-        return at;
-    }
-    write_line(out, at, place, report_of(kind, figure, minute), links)
 }
