@@ -3,8 +3,10 @@
 #![tactic(auto)]
 
 ghost use Rattle.std.specs.Prelude.{◌≡◌};
+ghost use Rattle.free_table.specs.Looking.{TablesSized};
 ghost use Rattle.lent.specs.Lent.{tables_of, tables_in};
 
+use free_table::FreeTable;
 use units::{Head, Link};
 
 // Links and tables, lent for reading.
@@ -25,6 +27,20 @@ pub struct Desk<'a> {
     pub events: &'a mut [u32],
     pub free: &'a mut [u32],
     pub book: &'a mut [u32],
+}
+
+impl<'a> LentTables<'a> {
+    // The events and the free figures.
+    pub fn free_table(&self) -> FreeTable<'a>
+        requires { TablesSized self.now.events.now self.now.free.now }
+        ensures events { result.events.now ≡ self.now.events.now }
+        ensures figures { result.figures.now ≡ self.now.free.now }
+    {
+        FreeTable {
+            events: self.events,
+            figures: self.free,
+        }
+    }
 }
 
 impl Desk<'_> {

@@ -2,7 +2,7 @@
 // decides nothing itself. Every input is answered; an order that is refused changes nothing.
 #![tactic(auto)]
 
-ghost use Rattle.std.specs.Prelude.{◌≡◌, ◌+◌, ◌≤◌, length};
+ghost use Rattle.std.specs.Prelude.{◌≡◌, ◌+◌, ◌≤◌, length, Err};
 ghost use Rattle.lent.specs.Lent.{SameLoans, tables_of};
 ghost use Rattle.report.specs.Line.{max_line};
 ghost use Rattle.report.specs.Written.{Wrote};
@@ -21,6 +21,18 @@ use units::{Refusal, Request};
 pub struct Answered {
     pub report: Report,
     pub path: Path,
+}
+
+// What a refused order is answered.
+impl From<Refusal> for Answered {
+    ghost from_gives = { λ refusal answered. answered ≡ told (Err refusal) };
+
+    fn from(refusal: Refusal) -> Answered {
+        Answered {
+            report: Report::Refused(u32::from(refusal)),
+            path: no_path(),
+        }
+    }
 }
 
 // What the order that the bytes hold is answered, or why it is refused: 12 and 11 where they cannot be read.
@@ -62,23 +74,13 @@ fn carry_out(bytes: &[u8], desk: &mut Desk<'_>) -> Result<Answered, Refusal>
     }
 }
 
-// What a refused order is answered.
-fn refused(refusal: Refusal) -> Answered
-    ensures { result ≡ told (Err refusal) }
-{
-    Answered {
-        report: Report::Refused(u32::from(refusal)),
-        path: no_path(),
-    }
-}
-
 // Answers any bytes as an order: 12 and 11 where they cannot be read, else what the call that the order names answers.
 pub fn answer_order(bytes: &[u8], desk: &mut Desk<'_>) -> Answered
     ensures loans { SameLoans desk.old desk.new }
     ensures answer { result ≡ (ordered desk.old.links.now (tables_of desk.old) bytes.now).answer }
     ensures tables { tables_of desk.new ≡ (ordered desk.old.links.now (tables_of desk.old) bytes.now).tables }
 {
-    carry_out(bytes, desk).unwrap_or_else(refused)
+    carry_out(bytes, desk).unwrap_or_else(Answered::from)
 }
 
 // Answers any bytes as an order and writes its line from index `at` on; answers the index behind the line.

@@ -121,14 +121,8 @@ pub fn check_tables(tables: &LentTables<'_>) -> Result<(), Refusal>
 pub fn check_listing(tables: &LentTables<'_>, list: usize) -> Result<(), Refusal>
     ensures { number_of result ≡ first_refusal (lent_checks tables.now.links.now (tables_in tables.now) (eqb list list_size)) }
 {
-    if !sized(tables) {
-        return Err(Refusal::BadSize);
-    }
-    if list != LIST_FIGURES {
+    if sized(tables) && list != LIST_FIGURES {
         return Err(Refusal::BadList);
     }
-    if !sound(tables) {
-        return Err(Refusal::Unsound);
-    }
-    Ok(())
+    check_tables(tables)
 }

@@ -98,21 +98,23 @@ pub record Going (links : List Link) (path : List ℕ) (node : ℕ) (marks : Lis
   pub same : Same links path node seen i
 
 module _ (links : List Link) (right : links_ok links ≡ true) (path : List ℕ) where
-  module _ (some : 0 < length path) (known : get_or path 0 0 < length links) where
-    abbrev pub node : ℕ
-    node = (link links (get_or path 0 0)).from
+  module _ (some : 0 < length path) (few : length path ≤ most_hops) where
+    pub stops_first : length links ≤ get_or path 0 0 → path_ok (graph links) path ≡ false
+    stops_first h = path_some (graph links) path some few ∙ ap (goes_on (graph links) _ _) (path_rest path 0 some) ∙ going_past links _ _ _ _ h
 
-    first : first_node (graph links) path ≡ node
-    first = ap (first_node (graph links)) (path_rest path 0 some)
+  -- the first link
+  module _ (some : 0 < length path) (start : Link) (known : get_or path 0 0 < length links) (is : start ≡ link links (get_or path 0 0)) where
+    first : first_node (graph links) path ≡ start.from
+    first = ap (first_node (graph links)) (path_rest path 0 some) ∙ ap (λ l. l.from) (sym is)
 
-    pub going_first : Going links path node (set (replicate (suc last_node) false) node true) 0
+    pub going_first : Going links path start.from (set (replicate (suc last_node) false) start.from true) 0
     going_first =
-        let h = from_node links (get_or path 0 0) right known in
+        let h : start.from ≤ last_node = omega (arith, from_node links (get_or path 0 0) right known, ap (λ l. l.from) is) in
         record {
           node_right = h;
-          marks_long = length-set (replicate (suc last_node) false) node true;
-          seen = node ∷ [];
-          marked = marks_more (replicate (suc last_node) false) [] node (omega arith) marks_none;
+          marks_long = length-set (replicate (suc last_node) false) start.from true;
+          seen = start.from ∷ [];
+          marked = marks_more (replicate (suc last_node) false) [] start.from (omega arith) marks_none;
           same = ap (λ v. goes_on (graph links) v (v ∷ []) path) first;
         }
 
@@ -127,29 +129,39 @@ module _ (links : List Link) (right : links_ok links ≡ true) (path : List ℕ)
     pub stops_past : length links ≤ number → path_ok (graph links) path ≡ false
     stops_past h = turn ∙ going_past links number node g.seen (drop (i + 1) path) h
 
-    module _ (known : number < length links) where
-      pub stops_elsewhere : ((link links number).from ≡ node → ⊥) → path_ok (graph links) path ≡ false
-      stops_elsewhere d = turn ∙ going_elsewhere links number node g.seen (drop (i + 1) path) known d
+    -- the link of that number
+    module _ (next : Link) (known : number < length links) (is : next ≡ link links number) where
+      pub stops_elsewhere : (next.from ≡ node → ⊥) → path_ok (graph links) path ≡ false
+      stops_elsewhere d = turn ∙ going_elsewhere links number node g.seen (drop (i + 1) path) known (λ e. d (ap (λ l. l.from) is ∙ e))
 
-      module _ (begins : (link links number).from ≡ node) where
-        abbrev pub end : ℕ
-        end = (link links number).to
+      end_is : next.to ≡ (link links number).to
+      end_is = ap (λ l. l.to) is
 
-        was_met : get_or marks end false ≡ member end g.seen
-        was_met = g.marked end (to_node links number right known)
+      end_right : next.to ≤ last_node
+      end_right = omega (arith, to_node links number right known, end_is)
 
-        pub stops_again : get_or marks end false ≡ true → path_ok (graph links) path ≡ false
-        stops_again e = turn ∙ going_again links number node g.seen (drop (i + 1) path) known begins (sym was_met ∙ e)
+      was_met : member (link links number).to g.seen ≡ get_or marks next.to false
+      was_met = ap (λ n. member n g.seen) (sym end_is) ∙ sym (g.marked next.to end_right)
 
-        pub goes_further : get_or marks end false ≡ false → Going links path end (set marks end true) (i + 1)
+      module _ (begins : next.from ≡ node) where
+        begins_here : (link links number).from ≡ node
+        begins_here = ap (λ l. l.from) (sym is) ∙ begins
+
+        pub stops_again : get_or marks next.to false ≡ true → path_ok (graph links) path ≡ false
+        stops_again e = turn ∙ going_again links number node g.seen (drop (i + 1) path) known begins_here (was_met ∙ e)
+
+        pub goes_further : get_or marks next.to false ≡ false → Going links path next.to (set marks next.to true) (i + 1)
         goes_further e =
-            let h = to_node links number right known in
             record {
-              node_right = h;
-              marks_long = length-set marks end true ∙ g.marks_long;
-              seen = end ∷ g.seen;
-              marked = marks_more marks g.seen end (omega (arith, g.marks_long)) g.marked;
-              same = g.same ∙ ap (goes_on (graph links) node g.seen) (path_rest path i here) ∙ going_on links number node g.seen (drop (i + 1) path) known begins (sym was_met ∙ e);
+              node_right = end_right;
+              marks_long = length-set marks next.to true ∙ g.marks_long;
+              seen = next.to ∷ g.seen;
+              marked = marks_more marks g.seen next.to (omega (arith, g.marks_long, end_right)) g.marked;
+              same =
+                  g.same
+                  ∙ ap (goes_on (graph links) node g.seen) (path_rest path i here)
+                  ∙ going_on links number node g.seen (drop (i + 1) path) known begins_here (was_met ∙ e)
+                  ∙ ap (λ n. goes_on (graph links) n (n ∷ g.seen) (drop (i + 1) path)) (sym end_is);
             }
 
   pub goes_whole : 0 < length path → length path ≤ most_hops → (node : ℕ) (marks : List Bool) (i : ℕ) → Going links path node marks i → length path ≤ i → path_ok (graph links) path ≡ true

@@ -32,22 +32,19 @@ fn path_right(links: CheckedLinks<'_>, booking: Booking) -> bool
 {
     let links = links.links;
     let path = &booking.links[..booking.count as usize];
-    if path.is_empty() {
+    let Some(&first) = path.first() else {
         return false;
-    }
-    let first = path[0] as usize;
-    if links.len() <= first {
+    };
+    let Some(start) = links.get(first as usize) else {
         return false;
-    }
-    let mut node = links[first].from;
+    };
+    let mut node = start.from;
     let mut met = [false; NODES];
     met[node as usize] = true;
     for &number in path {
-        let number = number as usize;
-        if links.len() <= number {
+        let Some(link) = links.get(number as usize) else {
             return false;
-        }
-        let link = links[number];
+        };
         if link.from != node || met[link.to as usize] {
             return false;
         }

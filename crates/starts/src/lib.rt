@@ -13,7 +13,6 @@ ghost use Rattle.lent.specs.Lent.{tables_in};
 ghost use Rattle.starts.specs.Asked.{search_of, Asks};
 
 use choice::{Asked, Granted, Search};
-use free_table::FreeTable;
 use lent::LentTables;
 use listing::list_ranges;
 use path_search::LinkEnds;
@@ -48,13 +47,9 @@ pub fn best_start(tables: &LentTables<'_>, request: Request) -> Result<Granted, 
 {
     let low = low_minute(tables.head, request);
     let search = search_of(tables.head, tables.links, request);
-    let table = FreeTable {
-        events: tables.events,
-        figures: tables.free,
-    };
     let asked = Asked {
         search: &search,
-        table,
+        table: tables.free_table(),
     };
     asked.choose(low, request.latest)
 }
@@ -69,13 +64,9 @@ pub fn all_starts(tables: &LentTables<'_>, request: Request, list: &mut [u32]) -
 {
     let low = low_minute(tables.head, request);
     let search = search_of(tables.head, tables.links, request);
-    let table = FreeTable {
-        events: tables.events,
-        figures: tables.free,
-    };
     let asked = Asked {
         search: &search,
-        table,
+        table: tables.free_table(),
     };
     list_ranges(&asked, low, request.latest, list)
 }

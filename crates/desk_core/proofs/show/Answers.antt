@@ -1,5 +1,5 @@
 -- `show` meets its contract: each way out is one of the outcome's; the figure is the plain book's.
-use mathlib.Core.Path.{◌≡◌, refl, ap, ◌∙◌}
+use mathlib.Core.Path.{◌≡◌, refl, ap, ap₂, ◌∙◌}
 use borrow.Author.Rules.{rules}
 use Prim.Native.Nat.{◌<◌}
 use Rattle.units.specs.Refusals.{number}
@@ -8,6 +8,7 @@ use lib.ListN.{length}
 use Rattle.units.specs.Limits.{last_shown}
 use Rattle.units.specs.Lists.{Within}
 use Rattle.units.proofs.Tests.{◌&◌, less_than, in_range}
+use Rattle.free_table.specs.Figures.{kept}
 use Rattle.rules.specs.Plain.{free}
 use Rattle.rules.specs.Calls.{Ask, ask, shows, refuse}
 use Rattle.rules.specs.Tables.{held}
@@ -45,11 +46,11 @@ returns-in_err-check_show c =
     let same : shown_values c.from_residual-in_err-check_show.result ≡ shown (refuse (number c.in_err-check_show.field-0.0)) = search rules in
     same ∙ handed_shown links (tables_in t) (ask a) _ (call_stops links (tables_in t) a c.in_ok-check_tables.ensures _ c.in_err-check_show.ensures)
 
-pub invariant_of-table : goal.invariant_of-table
-invariant_of-table c =
+pub free_table-requires : goal.free_table-requires
+free_table-requires c =
     let t = c.args.tables.now in
     let links = t.links.now in
-    record { sized = tables_sized links (tables_in t) (is_fine links (tables_in t) (Ask.show c.args.link.0 c.args.minute.0) c.in_ok-check_tables.ensures) }
+    tables_sized links (tables_in t) (is_fine links (tables_in t) (Ask.show c.args.link.0 c.args.minute.0) c.in_ok-check_tables.ensures)
 
 pub figure-requires : goal.figure-requires
 figure-requires c =
@@ -65,5 +66,6 @@ returns c =
     let a = Ask.show c.args.link.0 c.args.minute.0 in
     let f = is_fine links (tables_in t) a c.in_ok-check_tables.ensures in
     let q = may (goal.at.returns c).In_ok-check_show in
-    ap (λ x. record { refusal = 0; free = record { 0 = x } }) (c.figure.ensures ∙ figure_is links (tables_in t) f c.args.link.0 c.args.minute.0 q.0 q.1.0)
+    let read = ap₂ (λ es fr. kept es fr c.args.link.0 c.args.minute.0) c.free_table.ensures.events c.free_table.ensures.figures in
+    ap (λ x. record { refusal = 0; free = record { 0 = x } }) (c.figure.ensures ∙ read ∙ figure_is links (tables_in t) f c.args.link.0 c.args.minute.0 q.0 q.1.0)
     ∙ handed_shown links (tables_in t) (ask a) _ (goes_on links (tables_in t) a c.in_ok-check_tables.ensures c.in_ok-check_show.ensures (shows (free links (held (tables_in t)) c.args.link.0 c.args.minute.0)) refl)
