@@ -1,8 +1,10 @@
-// Whether figures are within document 01's limits: a figure of a range, the ends of a link or a request, the links, the fields
+// Whether figures are within document 01's limits: a booking number, the ends of a link or a request, the links, the fields
 // of a request, the sizes of what is lent. The soundness check and the refusals ask this; nothing here knows a refusal number.
 #![tactic(auto)]
 
 ghost use Rattle.std.specs.Prelude.{◌≡◌};
+ghost use Rattle.units.specs.Limits.{last_number};
+ghost use Rattle.units.specs.Lists.{within};
 ghost use Rattle.rules.specs.Calls.{ends_ok, request_ok};
 ghost use Rattle.rules.specs.Tables.{link_ok, links_ok, sized};
 ghost use Rattle.lent.specs.Lent.{tables_in};
@@ -10,8 +12,15 @@ ghost use Rattle.lent.specs.Lent.{tables_in};
 use lent::LentTables;
 use units::{
     BOOK_FIGURES, EVENTS, FREE_FIGURES, LAST_NODE, LINKS, Link, MAX_BANDWIDTH, MAX_DURATION,
-    MAX_MINUTE, Request,
+    MAX_MINUTE, MAX_NUMBER, Request,
 };
+
+// Whether a booking number is in range.
+pub fn number_ok(number: u32) -> bool
+    ensures { result ≡ within 1 last_number number }
+{
+    (1..=MAX_NUMBER).contains(&number)
+}
 
 // Whether two nodes are in range and differ.
 pub fn ends_ok(from: u32, to: u32) -> bool

@@ -10,12 +10,12 @@ ghost use Rattle.rules.specs.Tables.{held, held_by, lent_checks, table_checks};
 ghost use Rattle.lent.specs.Lent.{tables_in};
 
 use lent::LentTables;
-use limits::{in_range, links_right, request_ok, sized};
+use limits::{links_right, number_ok, request_ok, sized};
 use places::find;
 use soundness::sound;
 use units::{
-    BOOKINGS, Head, LIST_FIGURES, LinkNumber, MAX_MINUTE, MAX_NUMBER, MAX_SHOWN, Minute, PLACE,
-    Refusal, Request, low_minute,
+    BOOKINGS, Head, LIST_FIGURES, LinkNumber, MAX_MINUTE, MAX_SHOWN, Minute, PLACE, Refusal,
+    Request, low_minute,
 };
 
 // The first check of its own that an offer does not pass.
@@ -25,7 +25,7 @@ pub fn check_offer(head: Head, request: Request) -> Result<(), Refusal>
     if !request_ok(request) {
         return Err(Refusal::BadField);
     }
-    if request.latest.0 < low_minute(head, request).0 {
+    if request.latest < low_minute(head, request) {
         return Err(Refusal::TooLate);
     }
     Ok(())
@@ -36,7 +36,7 @@ pub fn check_booking(tables: &LentTables<'_>, number: u32, request: Request) -> 
     requires { tables.now.head.bookings * place_size ≤ length tables.now.book.now }
     ensures { number_of result ≡ first_refusal (own_checks [] (held (tables_in tables.now)) (Ask.book number request)) }
 {
-    if !in_range(1, MAX_NUMBER, number) {
+    if !number_ok(number) {
         return Err(Refusal::BadField);
     }
     check_offer(tables.head, request)?;
@@ -55,7 +55,7 @@ pub fn check_cancel(tables: &LentTables<'_>, number: u32) -> Result<(), Refusal>
     requires { tables.now.head.bookings * place_size ≤ length tables.now.book.now }
     ensures { number_of result ≡ first_refusal (own_checks [] (held (tables_in tables.now)) (Ask.cancel number)) }
 {
-    if !in_range(1, MAX_NUMBER, number) {
+    if !number_ok(number) {
         return Err(Refusal::BadField);
     }
     let count = tables.head.bookings as usize;
@@ -72,7 +72,7 @@ pub fn check_clock(head: Head, minute: Minute) -> Result<(), Refusal>
     if MAX_MINUTE < minute.0 {
         return Err(Refusal::BadField);
     }
-    if minute.0 < head.clock.0 {
+    if minute < head.clock {
         return Err(Refusal::ClockBack);
     }
     Ok(())
@@ -85,7 +85,7 @@ pub fn check_show(tables: &LentTables<'_>, link: LinkNumber, minute: Minute) -> 
     if tables.links.len() <= link.0 as usize {
         return Err(Refusal::BadField);
     }
-    if !in_range(tables.head.clock.0, MAX_SHOWN, minute.0) {
+    if !(tables.head.clock.0..=MAX_SHOWN).contains(&minute.0) {
         return Err(Refusal::BadField);
     }
     Ok(())

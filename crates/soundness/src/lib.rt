@@ -17,12 +17,12 @@ mod checked;
 use book::{Booking, booking_at};
 use checked::CheckedLinks;
 use lent::LentTables;
-use limits::{in_range, links_right};
+use limits::{links_right, number_ok};
 use path_search::NODES;
 use rebuild::rebuild;
 use units::{
-    BOOKINGS, EVENTS, FREE_FIGURES, Head, MAX_BANDWIDTH, MAX_DURATION, MAX_MINUTE, MAX_NUMBER,
-    PATH_LINKS, PLACE, release,
+    BOOKINGS, EVENTS, FREE_FIGURES, Head, MAX_BANDWIDTH, MAX_DURATION, MAX_MINUTE, PATH_LINKS,
+    PLACE, release,
 };
 
 // Whether a booking's path has a link, each begins where the one before ended, and no node is met twice.
@@ -59,10 +59,10 @@ fn booking_right(head: Head, links: CheckedLinks<'_>, booking: Booking) -> bool
     requires { booking.count ≤ most_hops }
     ensures { result ≡ booking_ok links.entry.links.now (held_by head []) (booking_of booking) }
 {
-    in_range(1, MAX_NUMBER, booking.number)
+    number_ok(booking.number)
         && booking.start.0 <= MAX_MINUTE
-        && in_range(1, MAX_DURATION, booking.duration.0)
-        && in_range(1, MAX_BANDWIDTH, booking.bandwidth.0)
+        && (1..=MAX_DURATION).contains(&booking.duration.0)
+        && (1..=MAX_BANDWIDTH).contains(&booking.bandwidth.0)
         && path_right(links, booking)
         && (head.clock.0 as u64) < release(head, booking.start, booking.duration)
 }

@@ -9,10 +9,10 @@ pub returns-then-is_none : goal.returns-then-is_none
 unfolding checked
 returns-then-is_none c =
     let t = c.args.tables.now in
-    simp (sym c.in_range.ensures ∙ c.if-not-in_range.false, stands_found t.head t.book.now c.args.number (sym c.find.ensures) ∙ c.is_none.ensures ∙ ap not c.if-is_none.true)
+    simp (sym c.number_ok.ensures ∙ c.if-not-number_ok.false, stands_found t.head t.book.now c.args.number (sym c.find.ensures) ∙ c.is_none.ensures ∙ ap not c.if-is_none.true)
 
 pub returns : goal.returns
 unfolding checked
 returns c =
     let t = c.args.tables.now in
-    simp (sym c.in_range.ensures ∙ c.if-not-in_range.false, stands_found t.head t.book.now c.args.number (sym c.find.ensures) ∙ c.is_none.ensures ∙ ap not c.if-is_none.false)
+    simp (sym c.number_ok.ensures ∙ c.if-not-number_ok.false, stands_found t.head t.book.now c.args.number (sym c.find.ensures) ∙ c.is_none.ensures ∙ ap not c.if-is_none.false)
