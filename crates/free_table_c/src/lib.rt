@@ -1,4 +1,4 @@
-// The free table for C: the exported functions of `free_table` under their own names, each with the clauses that it has there.
+// The free table for C: two functions of `free_table` and two methods of its `FreeTable`, each with the promise that it has there.
 #![tactic(auto)]
 
 ghost use Rattle.std.specs.Prelude.{◌≡◌, ◌*◌, ◌≤◌, ◌<◌, length, take};

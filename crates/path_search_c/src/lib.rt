@@ -1,5 +1,5 @@
-// The path search for tests in another language: two functions of `path_search` under their own names, each with the clauses
-// that it has there.
+// The path search for tests in another language: two methods of the `Network` of `path_search`, each with the promise that it
+// has there.
 #![tactic(auto)]
 
 ghost use Rattle.std.specs.Prelude.{◌≡◌, false, suc};
