@@ -16,10 +16,6 @@ abbrev pub Numbered : List Check → Type 0
 Numbered [] = Unit {0}
 Numbered (check k ok ∷ cs) = (1 ≤ k) × Numbered cs
 
-pub numbered_append : (cs ds : List Check) → Numbered cs → Numbered ds → Numbered (cs ++ ds)
-numbered_append [] ds m n = n
-numbered_append (check k ok ∷ cs) ds m n = (m.0, numbered_append cs ds m.1 n)
-
 -- where no number is found, all are passed
 pub passed_number : (cs : List Check) → Numbered cs → first_refusal cs ≡ 0 → Passed cs
 unfolding checked

@@ -9,11 +9,11 @@ use report::MAX_LINE;
 use std::io::{self, Stdout, Write};
 
 // The bytes of a block of orders, and of the buffer of its lines.
-pub const BLOCK_BYTES: usize = 65_536;
+pub(crate) const BLOCK_BYTES: usize = 65_536;
 
 // A desk, the lines that stand in a buffer, and the place of the next order.
 #[derive(Drop)]
-pub struct Session<'a> {
+pub(crate) struct Session<'a> {
     desk: Desk<'a>,
     stdout: Stdout,
     buffer: [u8; BLOCK_BYTES],
@@ -23,11 +23,14 @@ pub struct Session<'a> {
 }
 
 impl<'a> Session<'a> {
-    ghost use Rattle.std.specs.Prelude.{◌+◌};
+    ghost use Rattle.std.specs.Prelude.{◌≡◌, ◌+◌};
     ghost use Rattle.report.specs.Line.{max_line};
 
-    // A session at its first order.
-    pub fn new(desk: Desk<'a>, stdout: Stdout) -> Session<'a> {
+    // A session at its first order, with no line.
+    pub(crate) fn new(desk: Desk<'a>, stdout: Stdout) -> Session<'a>
+        ensures no_line { result.used ≡ 0 }
+        ensures first { result.place ≡ 1 }
+    {
         Session {
             desk,
             stdout,
@@ -75,7 +78,7 @@ impl<'a> Session<'a> {
     }
 
     // Runs the orders of a block, the last of which may be cut short, and writes their lines out.
-    pub fn run_block(&mut self, block: &[u8]) -> io::Result<()> {
+    pub(crate) fn run_block(&mut self, block: &[u8]) -> io::Result<()> {
         for order in block.chunks(ORDER_BYTES) {
             self.run(order);
         }

@@ -91,7 +91,6 @@ Same links path node seen i =
 
 -- the links before i go on from one to the next, `node` is where they end, and the marks are the nodes that they meet
 pub record Going (links : List Link) (path : List ℕ) (node : ℕ) (marks : List Bool) (i : ℕ) : Type 0 where
-  pub node_right : node ≤ last_node
   pub marks_long : length marks ≡ suc last_node
   pub seen : List ℕ
   pub marked : Marks marks seen
@@ -111,7 +110,6 @@ module _ (links : List Link) (right : links_ok links ≡ true) (path : List ℕ)
     going_first =
         let h : start.from ≤ last_node = omega (arith, from_node links (get_or path 0 0) right known, ap (λ l. l.from) is) in
         record {
-          node_right = h;
           marks_long = length-set (replicate (suc last_node) false) start.from true;
           seen = start.from ∷ [];
           marked = marks_more (replicate (suc last_node) false) [] start.from (omega arith) marks_none;
@@ -153,7 +151,6 @@ module _ (links : List Link) (right : links_ok links ≡ true) (path : List ℕ)
         pub goes_further : get_or marks next.to false ≡ false → Going links path next.to (set marks next.to true) (i + 1)
         goes_further e =
             record {
-              node_right = end_right;
               marks_long = length-set marks next.to true ∙ g.marks_long;
               seen = next.to ∷ g.seen;
               marked = marks_more marks g.seen next.to (omega (arith, g.marks_long, end_right)) g.marked;

@@ -1,13 +1,13 @@
-// The event table and the rows beside it, as their owner lends them: the row that holds in a minute, the count of events,
-// and one event, or the two of a span, put in with a copy of the row before. The free table and the desk call this; it
-// never looks at what a row holds. `timeline_c` exports five of its functions to C.
+// The event table and the rows beside it, as their owner lends them: the row that holds in a minute, and one event, or the two
+// of a span, put in with a copy of the row before. The free table and the desk call this; it never looks at what a row
+// holds. `timeline_c` exports its functions to C.
 #![tactic(auto)]
 
 ghost use Rattle.std.specs.Prelude.{◌≡◌, [], ◌∷◌, ◌+◌, ◌≤◌, ◌<◌, length, take};
 ghost use Rattle.units.specs.Limits.{most_links};
 ghost use Rattle.units.specs.Lists.{put_piece};
 ghost use Rattle.timeline.specs.Events.{row_at};
-ghost use Rattle.timeline.specs.EventTable.{count_events, only_clock};
+ghost use Rattle.timeline.specs.EventTable.{only_clock};
 ghost use Rattle.timeline.specs.Insertion.{with_event, with_row, with_span, with_span_rows, Room};
 
 use units::{Minute, ROW};
@@ -23,16 +23,6 @@ pub fn row_at(events: &[u32], minute: Minute) -> usize
         .iter()
         .take_while(|&&event| event != 0 && event <= minute.0)
         .count()
-}
-
-// How many events the table holds: the clock, and those up to the first zero behind it.
-pub fn count_events(events: &[u32]) -> usize
-    ensures { result ≡ count_events events.now }
-{
-    let Some((_, later)) = events.split_first() else {
-        return 0;
-    };
-    1 + later.iter().take_while(|&&event| event != 0).count()
 }
 
 // The event table of a desk without bookings: the clock alone.

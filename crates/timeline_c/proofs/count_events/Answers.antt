@@ -7,7 +7,7 @@ use Rattle.std.proofs.lemmas.Iterator.Search.{YieldsList-from_take_while}
 use Rattle.std.proofs.lemmas.Iterator.Consumers.{count_from_yields_List}
 use Rattle.std.proofs.lemmas.List.Folds.{length-prefix_len}
 use Rattle.timeline.specs.EventTable.{filled, count_events}
-use Rattle.timeline.proofs.count_events.Goals as goal
+use Rattle.timeline_c.proofs.count_events.Goals as goal
 
 filled_first : (es : List ℕ) → filled es ≡ prefix_len (λ e. not (eqb e 0)) es
 unfolding filled
