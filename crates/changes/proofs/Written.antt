@@ -26,7 +26,7 @@ use Rattle.rebuild.specs.Rebuilding.{release_of, PlaceRight, CanRebuild}
 use Rattle.changes.specs.Updating.{with_count, booked, Grantable}
 use Rattle.rules.proofs.Obeys.{held_count, right_in}
 use Rattle.rules.proofs.Tests.{Sized}
-use Rattle.rebuild.proofs.Added.{CanAdd, Adds, add_asks, added}
+use Rattle.rebuild.proofs.Added.{CanAdd, Adds, place_right, place_room, added}
 use Rattle.rebuild.proofs.RebuiltBook.{can_rebuild, events_anew, free_anew}
 use Rattle.changes.proofs.InOrder.{slot_inside, book_entered}
 use Rattle.rules.proofs.Fine.{sizes, links_are, events_are, free_are}
@@ -107,8 +107,11 @@ module _ {links : List Link} {t : Tables} (fine : Fine links t) {number : ℕ} {
   pub enter_asks : slot place_size number t.book t.head.bookings < most_bookings
   enter_asks = slot_inside fine (booked number r start path) short g.room
 
-  pub grant_asks : Room t.events t.free 2 × PlaceRight (granted_place number r start path)
-  grant_asks = rw (events_are fine, free_are fine) (add_asks links (held t) (granted_place number r start path) can_add)
+  pub granted_right : PlaceRight (granted_place number r start path)
+  granted_right = place_right links (held t) (granted_place number r start path) can_add
+
+  pub granted_room : Room t.events t.free 2
+  granted_room = rw (events_are fine, free_are fine) (place_room links (held t) (granted_place number r start path) can_add)
 
   -- and the tables with what they give
   pub entered_tables : {es' t' book' : List ℕ} {answer : Bool} → Adds (release_of t.head (granted_place number r start path)) (granted_place number r start path) t.events t.free es' t' answer

@@ -14,7 +14,7 @@ use book::{Booking, insert_booking};
 use lent::Desk;
 use path_search::Path;
 use places::{drop_ended, find, remove_place, slot};
-use rebuild::{add_booking, rebuild};
+use rebuild::{RightBooking, add_booking, rebuild};
 use units::{Head, Minute, PLACE, Request};
 
 // The tables of a desk that was just set up.
@@ -96,7 +96,7 @@ pub fn enter(desk: &mut Desk<'_>, number: u32, request: Request, start: Minute, 
     let book = &mut *desk.book;
     let place = slot(book, PLACE, head.bookings as usize, number);
     insert_booking(book, place, booking);
-    add_booking(head, desk.events, desk.free, booking);
+    add_booking(head, desk.events, desk.free, RightBooking { booking });
     head.bookings += 1;
     *desk.head = head;
 }
