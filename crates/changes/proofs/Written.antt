@@ -26,7 +26,7 @@ use Rattle.rebuild.specs.Rebuilding.{release_of, PlaceRight, CanRebuild}
 use Rattle.changes.specs.Updating.{with_count, booked, Grantable}
 use Rattle.rules.proofs.Obeys.{held_count, right_in}
 use Rattle.rules.proofs.Tests.{Sized}
-use Rattle.rebuild.proofs.Added.{CanAdd, Adds, add_asks, added}
+use Rattle.rebuild.proofs.Added.{CanAdd, Adds, place_right, place_room, added}
 use Rattle.rebuild.proofs.RebuiltBook.{can_rebuild, events_anew, free_anew}
 use Rattle.changes.proofs.InOrder.{slot_inside, book_entered}
 use Rattle.rules.proofs.Fine.{sizes, links_are, events_are, free_are}
@@ -48,22 +48,22 @@ head_with clock links bookings = record { clock = record { 0 = clock }; links = 
 
 -- tables of the right sizes, and the book table of a plain book with its count
 module _ {links : List Link} {t : Tables} (right : Sized links t) {p : Plain} (o : Obeys links p) {head : Head} {book : List ℕ} (is_head : head ≡ head_of links p) (is_book : book ≡ book_table p) where
-  -- what `rebuild` asks
+  -- what `rebuild_desk` asks
   pub anew_asks : CanRebuild links head book t.events t.free
   anew_asks = rw (is_head, is_book) (can_rebuild links p o right.links_right t.events t.free right.events_right right.free_right)
 
-  -- and the tables with what it gives
-  pub anew_tables : {es' t' : List ℕ} → es' ≡ event_table (held_by head book) → t' ≡ free_table links (held_by head book) → lent head es' t' book ≡ tables links p
-  anew_tables a b =
+  -- and the tables that it gives
+  pub anew_tables : lent head (event_table (held_by head book)) (free_table links (held_by head book)) book ≡ tables links p
+  anew_tables =
       tables_are links p is_head
-      (a ∙ ap₂ (λ h x. event_table (held_by h x)) is_head is_book ∙ events_anew links p o)
-      (b ∙ ap₂ (λ h x. free_table links (held_by h x)) is_head is_book ∙ free_anew links p o)
+      (ap₂ (λ h x. event_table (held_by h x)) is_head is_book ∙ events_anew links p o)
+      (ap₂ (λ h x. free_table links (held_by h x)) is_head is_book ∙ free_anew links p o)
       is_book
 
 -- ---- none
 
 module _ {links : List Link} {t : Tables} (right : Sized links t) {book : List ℕ} (is_book : book ≡ replicate (most_bookings * place_size) 0) where
-  -- what `rebuild` asks
+  -- what `rebuild_desk` asks
   pub bare_asks : CanRebuild links (head_with 0 (length links) 0) book t.events t.free
   unfolding count_from
   bare_asks = record {
@@ -76,11 +76,10 @@ module _ {links : List Link} {t : Tables} (right : Sized links t) {book : List �
     bookings_right = tt;
   }
 
-  -- and the tables with what it gives
-  pub bare_tables : {es' t' : List ℕ} → es' ≡ event_table (held_by (head_with 0 (length links) 0) book) → t' ≡ free_table links (held_by (head_with 0 (length links) 0) book)
-      → lent (head_with 0 (length links) 0) es' t' book ≡ tables links empty
+  -- and the tables that it gives
+  pub bare_tables : let head = head_with 0 (length links) 0 in lent head (event_table (held_by head book)) (free_table links (held_by head book)) book ≡ tables links empty
   unfolding count_from flatten plain-book.by_number
-  bare_tables a b = tables_are links empty refl a b is_book
+  bare_tables = tables_are links empty refl refl refl is_book
 
 -- ---- one booking more
 
@@ -107,8 +106,11 @@ module _ {links : List Link} {t : Tables} (fine : Fine links t) {number : ℕ} {
   pub enter_asks : slot place_size number t.book t.head.bookings < most_bookings
   enter_asks = slot_inside fine (booked number r start path) short g.room
 
-  pub grant_asks : Room t.events t.free 2 × PlaceRight (granted_place number r start path)
-  grant_asks = rw (events_are fine, free_are fine) (add_asks links (held t) (granted_place number r start path) can_add)
+  pub granted_right : PlaceRight (granted_place number r start path)
+  granted_right = place_right links (held t) (granted_place number r start path) can_add
+
+  pub granted_room : Room t.events t.free 2
+  granted_room = rw (events_are fine, free_are fine) (place_room links (held t) (granted_place number r start path) can_add)
 
   -- and the tables with what they give
   pub entered_tables : {es' t' book' : List ℕ} {answer : Bool} → Adds (release_of t.head (granted_place number r start path)) (granted_place number r start path) t.events t.free es' t' answer

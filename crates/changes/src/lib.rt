@@ -6,16 +6,29 @@ ghost use Rattle.std.specs.Prelude.{◌≡◌, true, ◌≤◌};
 ghost use Rattle.units.specs.Limits.{last_minute};
 ghost use Rattle.rules.specs.Plain.{empty};
 ghost use Rattle.rules.specs.Calls.{stands, take_out, move_to, put_in};
-ghost use Rattle.rules.specs.Tables.{held, sized, tables, Fine};
+ghost use Rattle.rules.specs.Tables.{held, held_by, event_table, free_table, lent, sized, tables, Fine};
 ghost use Rattle.lent.specs.Lent.{tables_of, SameLoans};
+ghost use Rattle.rebuild.specs.Rebuilding.{CanRebuild};
 ghost use Rattle.changes.specs.Updating.{booked, Grantable};
 
 use book::{Booking, insert_booking};
 use lent::Desk;
 use path_search::Path;
 use places::{drop_ended, find, remove_place, slot};
-use rebuild::{add_booking, rebuild};
+use rebuild::{RightBooking, add_booking, rebuild};
 use units::{Head, Minute, PLACE, Request};
+
+// Writes a head, and the events and free figures anew from it and the book.
+fn rebuild_desk(desk: &mut Desk<'_>, head: Head)
+    requires { CanRebuild desk.old.links.now head desk.old.book.now desk.old.events.now desk.old.free.now }
+    ensures loans { SameLoans desk.old desk.new }
+    ensures tables { let p = held_by head desk.old.book.now in tables_of desk.new ≡ lent head (event_table p) (free_table desk.old.links.now p) desk.old.book.now }
+{
+    let links = desk.links;
+    let book = &mut *desk.book;
+    rebuild(head, links, desk.events, desk.free, book);
+    *desk.head = head;
+}
 
 // The tables of a desk that was just set up.
 pub fn reset(desk: &mut Desk<'_>)
@@ -28,13 +41,8 @@ pub fn reset(desk: &mut Desk<'_>)
         links: desk.links.len() as u32,
         bookings: 0,
     };
-    let links = desk.links;
-    let events = &mut *desk.events;
-    let free = &mut *desk.free;
-    let book = &mut *desk.book;
-    book.fill(0);
-    rebuild(head, links, events, free, book);
-    *desk.head = head;
+    desk.book.fill(0);
+    rebuild_desk(desk, head);
 }
 
 // Takes out the booking of a number, which stands.
@@ -45,17 +53,13 @@ pub fn take_out(desk: &mut Desk<'_>, number: u32)
     ensures tables { tables_of desk.new ≡ tables desk.old.links.now (take_out number (held (tables_of desk.old))) }
 {
     let mut head = *desk.head;
-    let links = desk.links;
-    let events = &mut *desk.events;
-    let free = &mut *desk.free;
     let book = &mut *desk.book;
     let Some(place) = find(book, PLACE, head.bookings as usize, number) else {
         return;
     };
     remove_place(book, PLACE, place);
     head.bookings -= 1;
-    rebuild(head, links, events, free, book);
-    *desk.head = head;
+    rebuild_desk(desk, head);
 }
 
 // Moves the clock on and drops what has ended.
@@ -67,13 +71,8 @@ pub fn advance(desk: &mut Desk<'_>, minute: Minute)
 {
     let mut head = *desk.head;
     head.clock = minute;
-    let links = desk.links;
-    let events = &mut *desk.events;
-    let free = &mut *desk.free;
-    let book = &mut *desk.book;
-    head.bookings = drop_ended(head, book, PLACE) as u32;
-    rebuild(head, links, events, free, book);
-    *desk.head = head;
+    head.bookings = drop_ended(head, desk.book, PLACE) as u32;
+    rebuild_desk(desk, head);
 }
 
 // Enters an accepted booking: its place in the book, its events, and its bandwidth taken from each link of its path.
@@ -96,7 +95,7 @@ pub fn enter(desk: &mut Desk<'_>, number: u32, request: Request, start: Minute, 
     let book = &mut *desk.book;
     let place = slot(book, PLACE, head.bookings as usize, number);
     insert_booking(book, place, booking);
-    add_booking(head, desk.events, desk.free, booking);
+    add_booking(head, desk.events, desk.free, RightBooking { booking });
     head.bookings += 1;
     *desk.head = head;
 }

@@ -3,9 +3,7 @@
 #![tactic(auto)]
 
 ghost use Rattle.std.specs.Prelude.{◌≡◌};
-ghost use Rattle.units.specs.Limits.{last_number};
-ghost use Rattle.units.specs.Lists.{within};
-ghost use Rattle.rules.specs.Calls.{ends_ok, request_ok};
+ghost use Rattle.rules.specs.Calls.{ends_ok, number_ok, request_ok};
 ghost use Rattle.rules.specs.Tables.{link_ok, links_ok, sized};
 ghost use Rattle.lent.specs.Lent.{tables_in};
 
@@ -17,7 +15,7 @@ use units::{
 
 // Whether a booking number is in range.
 pub fn number_ok(number: u32) -> bool
-    ensures { result ≡ within 1 last_number number }
+    ensures { result ≡ number_ok number }
 {
     (1..=MAX_NUMBER).contains(&number)
 }

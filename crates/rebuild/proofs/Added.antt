@@ -37,6 +37,7 @@ use Rattle.rules.specs.Calls.{put_in}
 use Rattle.rules.specs.Tables.{events_of, event_table, free_table, booking_of}
 use Rattle.rules.specs.Sound.{BookingRight}
 use Rattle.rebuild.specs.Rebuilding.{place_path, less_path, enough_path, PlaceRight}
+use Rattle.rebuild.proofs.Along.{link_below}
 use Rattle.rules.specs.Desk.{NotOversold}
 use Rattle.rules.proofs.Uses.{all_times, uses_most, uses_within, taken_put_in, free_put_in, taken_past, free_changes}
 
@@ -244,16 +245,16 @@ pub record Added (links : List Link) (p : Plain) (b : Booking) (es t : List ℕ)
   pub answer_is : Tells answer (Fits links p b)
 
 module _ (links : List Link) (p : Plain) (b : Place) (can : CanAdd links p b) where
-  place_right : PlaceRight b
+  pub place_right : PlaceRight b
   place_right = record {
     start_right = can.right.start_right;
     duration_right = can.right.duration_right;
     count_right = can.count_right;
-    links_right = all_map (λ l. l < length links) (λ l. l < most_links) (λ l h. let few = can.few_links in omega arith) (place_path b) (path_inside (graph links) (place_path b) can.right.path_right);
+    links_right = λ i h. omega (arith, can.few_links, link_below (length links) (place_path b) i (path_inside (graph links) (place_path b) can.right.path_right) h);
   }
 
-  pub add_asks : Room (event_table p) (free_table links p) 2 × PlaceRight b
-  add_asks = (room_left links p (booking_of b) can.few_links can.room, place_right)
+  pub place_room : Room (event_table p) (free_table links p) 2
+  place_room = room_left links p (booking_of b) can.few_links can.room
 
   pub added : (es' t' : List ℕ) (answer : Bool) → Adds (until p (booking_of b)) b (event_table p) (free_table links p) es' t' answer → Added links p (booking_of b) es' t' answer
   added es' t' answer h = record {

@@ -6,16 +6,15 @@ use native.Mathlib.Numerals.{add-one}
 use native.Mathlib.Omega.{arith}
 use lib.ListN.{length, get_or, drop, drop_of_length-le}
 use lib.Seq.{drop-cons}
-use Rattle.units.specs.Limits.{most_links}
 use Rattle.units.specs.Lists.{All}
 use Rattle.free_table.specs.Taking.{less_span}
 use Rattle.rebuild.specs.Rebuilding.{less_path}
 
--- the link at place i of a path of such
-pub link_below : (path : List ℕ) (i l : ℕ) → All (λ x. x < most_links) path → i < length path → l ≡ get_or path i l → l < most_links
-link_below [] i l right h e = absurd (omega arith)
-link_below (x ∷ xs) zero l right h e = omega (arith, right.0, e)
-link_below (x ∷ xs) (suc i) l right h e = link_below xs i l right.1 (omega arith) e
+-- the link at place i of a path of links below n
+pub link_below : (n : ℕ) (path : List ℕ) (i : ℕ) → All (λ l. l < n) path → i < length path → get_or path i 0 < n
+link_below n [] i below h = absurd (omega arith)
+link_below n (l ∷ ls) zero below h = below.0
+link_below n (l ∷ ls) (suc i) below h = link_below n ls i below.1 (omega arith)
 
 -- taking from place i of the path on
 module _ (es : List ℕ) (start end bandwidth : ℕ) (path : List ℕ) (i : ℕ) (t : List ℕ) where

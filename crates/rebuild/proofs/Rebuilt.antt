@@ -7,28 +7,27 @@ use native.Mathlib.Omega.{arith}
 use lib.ListN.{length, get_or, length-map}
 use Rattle.units.specs.declared.Link.{Link}
 use Rattle.units.specs.declared.Head.{Head}
-use Rattle.units.specs.Limits.{most_links, most_bookings, most_events}
+use Rattle.units.specs.Limits.{most_links, most_events}
 use Rattle.units.specs.Lists.{sum, count_from, All}
 use Rattle.units.proofs.Tests.{Tells, ◌&◌, Side, below, above, side}
-use Rattle.units.proofs.Padded.{length_count, length_padded}
+use Rattle.units.proofs.Padded.{length_count}
 use Rattle.timeline.specs.EventTable.{only_clock}
 use Rattle.timeline.specs.Insertion.{Room}
 use Rattle.timeline.proofs.Inserted.{only_clock_events}
 use Rattle.free_table.specs.Figures.{all_free}
-use Rattle.free_table.proofs.Figures.{length_table}
 use Rattle.free_table.proofs.Tables.{all_free_table}
 use Rattle.book.specs.declared.Booking.{Booking as Place}
 use Rattle.book.specs.Places.{booking_in}
 use Rattle.rules.specs.Plain.{no_link, Plain, with_book, until, free}
 use Rattle.rules.specs.Calls.{put_in}
-use Rattle.rules.specs.Tables.{events_of, event_table, free_table, booking_of, booking_at, held_by}
+use Rattle.rules.specs.Tables.{event_table, free_table, booking_of, booking_at, held_by}
 use Rattle.rules.specs.Sound.{BookingRight}
 use Rattle.rebuild.specs.Rebuilding.{release_of, PlaceRight, CanRebuild}
 use Rattle.rules.specs.Desk.{NotOversold}
 use Rattle.rules.proofs.Obeys.{right_in}
 use Rattle.units.specs.Columns.{column}
 use Rattle.units.proofs.Columns.{length_column, column_at}
-use Rattle.rebuild.proofs.Added.{events_few, oversold_added, CanAdd, Adds, add_asks, added}
+use Rattle.rebuild.proofs.Added.{oversold_added, CanAdd, Adds, place_right, place_room, added}
 
 -- the tables of a plain book, and whether no link is oversold
 pub record Rebuilt (links : List Link) (p : Plain) (es t : List ℕ) (fits : Bool) : Type 0 where
@@ -36,31 +35,20 @@ pub record Rebuilt (links : List Link) (p : Plain) (es t : List ℕ) (fits : Boo
   pub free_are : t ≡ free_table links p
   pub answer_is : Tells fits (NotOversold links p)
 
--- their sizes
-module _ (links : List Link) (p : Plain) (small : length links ≤ most_links) (few : length p.bookings ≤ most_bookings) {es t : List ℕ} {fits : Bool} (r : Rebuilt links p es t fits) where
-  enough : length (events_of p) ≤ most_events
-  enough = omega (arith, events_few p)
-
-  events_sized : length es ≡ most_events
-  events_sized = ap length r.events_are ∙ length_padded 0 most_events (events_of p) enough
-
-  free_sized : length t ≡ most_events * most_links
-  free_sized = ap length r.free_are ∙ length_table (length links) (free links p) small most_events (events_of p) enough
-
 -- ---- one booking more
 
 module _ (links : List Link) (p : Plain) (b : Place) (can : CanAdd links p b) {es t : List ℕ} {fits : Bool} (r : Rebuilt links p es t fits) where
   -- what `add_booking` asks
-  rebuilt_asks : Room es t 2 × PlaceRight b
-  rebuilt_asks = rw (r.events_are, r.free_are) (add_asks links p b can)
+  rebuilt_room : Room es t 2
+  rebuilt_room = rw (r.events_are, r.free_are) (place_room links p b can)
 
   -- and what it gives, where all bookings stand
-  rebuilt_gives : All (λ d. p.clock < until p d) p.bookings → (es' t' : List ℕ) (answer : Bool) → Adds (until p (booking_of b)) b es t es' t' answer → Rebuilt links (put_in (booking_of b) p) es' t' (answer && fits)
+  rebuilt_gives : All (λ d. p.clock < until p d) p.bookings → (es' t' : List ℕ) (answer : Bool) → Adds (until p (booking_of b)) b es t es' t' answer → Rebuilt links (put_in (booking_of b) p) es' t' (fits && answer)
   rebuilt_gives stand es' t' answer h =
       let a = added links p b can es' t' answer (rw (r.events_are, r.free_are) at h) in
-      let both = a.answer_is & r.answer_is in
+      let both = r.answer_is & a.answer_is in
       let more = oversold_added links p (booking_of b) can.right stand in
-      record { events_are = a.events_are; free_are = a.free_are; answer_is = ((λ e. let q = both.0 e in more.1 (q.1, q.0)), λ q. let k = more.0 q in both.1 (k.1, k.0)) }
+      record { events_are = a.events_are; free_are = a.free_are; answer_is = ((λ e. more.1 (both.0 e)), λ q. both.1 (more.0 q)) }
 
 -- ---- a booking for each number of a range
 
@@ -136,12 +124,6 @@ module _ (links : List Link) (head : Head) (book : List ℕ) {es₀ t₀ : List 
   few_links : length links ≤ most_links
   few_links = can.few_links
 
-  -- the tables at any place have the right sizes
-  pub place_sizes : (i : ℕ) {es t : List ℕ} {fits : Bool} → Rebuilt links (from_place head book i) es t fits → (length es ≡ most_events) × (length t ≡ most_events * most_links)
-  place_sizes i r =
-      let few : length (from_place head book i).bookings ≤ most_bookings = omega (arith, length_from i, can.few_bookings) in
-      (events_sized links (from_place head book i) few_links few r, free_sized links (from_place head book i) few_links few r)
-
   can_add : (i : ℕ) → i < head.bookings → CanAdd links (from_place head book (suc i)) (booking_in book i)
   can_add i h = record {
     few_links = few_links;
@@ -150,20 +132,24 @@ module _ (links : List Link) (head : Head) (book : List ℕ) {es₀ t₀ : List 
     count_right = can.counts_right i h;
   }
 
-  -- the tables of the places from `place` on, and the booking of the place before
-  module _ (place : ℕ) (some : 0 < place) (inside : place ≤ head.bookings) (b : Place) (is : b ≡ booking_in book (place - 1)) {es t : List ℕ} {fits : Bool}
-      (r : Rebuilt links (from_place head book place) es t fits) where
-    so_far : Rebuilt links (from_place head book (suc (place - 1))) es t fits
-    so_far = let e : place ≡ suc (place - 1) = omega arith in subst (λ i. Rebuilt links (from_place head book i) es t fits) e r
-
+  -- the booking of the place before `place`
+  module _ (place : ℕ) (some : 0 < place) (inside : place ≤ head.bookings) (b : Place) (is : b ≡ booking_in book (place - 1)) where
     can_be : CanAdd links (from_place head book (suc (place - 1))) b
     can_be = subst (CanAdd links (from_place head book (suc (place - 1)))) (sym is) (can_add (place - 1) (omega arith))
 
-    pub place_asks : Room es t 2 × PlaceRight b
-    place_asks = rebuilt_asks links (from_place head book (suc (place - 1))) b can_be so_far
+    pub right_before : PlaceRight b
+    right_before = place_right links (from_place head book (suc (place - 1))) b can_be
 
-    pub place_gives : (es' t' : List ℕ) (answer : Bool) → Adds (release_of head b) b es t es' t' answer → Rebuilt links (from_place head book (place - 1)) es' t' (answer && fits)
-    place_gives es' t' answer h =
-        subst (λ p. Rebuilt links p es' t' (answer && fits))
-        (sym (from_next head book (place - 1) (omega arith) ∙ ap (λ d. put_in (booking_of d) (from_place head book (suc (place - 1)))) (sym is)))
-        (rebuilt_gives links (from_place head book (suc (place - 1))) b can_be so_far (all_stand (suc (place - 1))) es' t' answer h)
+    -- and the tables of the places from `place` on
+    module _ {es t : List ℕ} {fits : Bool} (r : Rebuilt links (from_place head book place) es t fits) where
+      so_far : Rebuilt links (from_place head book (suc (place - 1))) es t fits
+      so_far = let e : place ≡ suc (place - 1) = omega arith in subst (λ i. Rebuilt links (from_place head book i) es t fits) e r
+
+      pub room_before : Room es t 2
+      room_before = rebuilt_room links (from_place head book (suc (place - 1))) b can_be so_far
+
+      pub rebuilt_before : (es' t' : List ℕ) (answer : Bool) → Adds (release_of head b) b es t es' t' answer → Rebuilt links (from_place head book (place - 1)) es' t' (fits && answer)
+      rebuilt_before es' t' answer h =
+          subst (λ p. Rebuilt links p es' t' (fits && answer))
+          (sym (from_next head book (place - 1) (omega arith) ∙ ap (λ d. put_in (booking_of d) (from_place head book (suc (place - 1)))) (sym is)))
+          (rebuilt_gives links (from_place head book (suc (place - 1))) b can_be so_far (all_stand (suc (place - 1))) es' t' answer h)

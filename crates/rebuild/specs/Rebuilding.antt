@@ -1,5 +1,5 @@
 -- What rebuilding gives: the events and free figures of a clock and the first places of a book, booking by booking.
-use Rattle.std.specs.Prelude.{◌≡◌, List, [], ◌∷◌, Bool, ℕ, ◌*◌, ◌≤◌, ◌<◌, length, take}
+use Rattle.std.specs.Prelude.{◌≡◌, List, [], ◌∷◌, Bool, ℕ, ◌*◌, ◌≤◌, ◌<◌, length, take, get_or}
 use Rattle.units.specs.Limits.{most_links, most_hops, most_bookings, most_events, place_size, last_minute, longest}
 use Rattle.units.specs.Lists.{all, All, Within}
 use Rattle.units.specs.Spans.{span_of, release}
@@ -33,7 +33,7 @@ pub record PlaceRight (b : Place) : Type 0 where
   pub start_right : b.start.0 ≤ last_minute
   pub duration_right : Within 1 longest b.duration.0
   pub count_right : b.count ≤ most_hops
-  pub links_right : All (λ l. l < most_links) (place_path b)
+  pub links_right : (i : ℕ) → i < length (place_path b) → get_or (place_path b) i 0 < most_links
 
 -- tables of the right sizes, and a book whose places, as many as the head counts, hold right bookings
 pub record CanRebuild (links : List Link) (head : Head) (book es t : List ℕ) : Type 0 where

@@ -1,5 +1,5 @@
 // The events and free figures of a head and its book: one booking added to them, and all of them anew. Booking adds one;
-// cancelling, moving the clock and the soundness check go through all. Nothing here looks at whether a booking is right.
+// cancelling, moving the clock and the soundness check go through all. Nothing here tests whether a booking is right.
 #![tactic(auto)]
 
 ghost use Rattle.std.specs.Prelude.{◌≡◌, true, ◌↔◌};
@@ -8,18 +8,21 @@ ghost use Rattle.timeline.specs.Insertion.{with_span, with_span_rows, Room};
 ghost use Rattle.rules.specs.Tables.{held_by, event_table, free_table};
 ghost use Rattle.rules.specs.Desk.{NotOversold};
 ghost use Rattle.free_table.specs.Looking.{TablesSized};
-ghost use Rattle.rebuild.specs.Rebuilding.{place_path, release_of, less_path, enough_path, PlaceRight, CanRebuild};
+ghost use Rattle.rebuild.specs.Rebuilding.{place_path, release_of, less_path, enough_path, CanRebuild};
 
-use book::{Booking, booking_at};
+mod right;
+
+use book::booking_at;
 use free_table::{FreeTable, Interval, reset_free, take_bandwidth};
+pub use right::RightBooking;
 use timeline::{insert_span, reset_events};
 use units::{Head, Link, LinkNumber, Minute, column, release};
 
 // Whether every link of a booking's path has its bandwidth free in every minute of an interval.
-fn path_fits(table: FreeTable<'_>, b: Booking, minutes: Interval) -> bool
-    requires { PlaceRight b }
-    ensures { result ≡ enough_path table.entry.events.now minutes.start.0 minutes.end.0 b.bandwidth.0 (place_path b) table.entry.figures.now }
+fn path_fits(table: FreeTable<'_>, b: RightBooking, minutes: Interval) -> bool
+    ensures { result ≡ enough_path table.entry.events.now minutes.start.0 minutes.end.0 b.booking.bandwidth.0 (place_path b.booking) table.entry.figures.now }
 {
+    let b = b.booking;
     let path = &b.links[..b.count as usize];
     let bandwidth = b.bandwidth;
     path.iter().all(|&link| table.has_bandwidth(minutes, LinkNumber(link), bandwidth))
@@ -27,11 +30,11 @@ fn path_fits(table: FreeTable<'_>, b: Booking, minutes: Interval) -> bool
 
 // Takes a booking's bandwidth from every link of its path in every minute of an interval.
 #[tactic(auto, using(crate::proofs::Along::less_next, crate::proofs::Along::less_done))]
-fn take_path(events: &[u32], free: &mut [u32], b: Booking, minutes: Interval)
-    requires sized { TablesSized events.now free.old }
-    requires place_right { PlaceRight b }
-    ensures { free.new ≡ less_path events.now minutes.start.0 minutes.end.0 b.bandwidth.0 (place_path b) free.old }
+fn take_path(events: &[u32], free: &mut [u32], b: RightBooking, minutes: Interval)
+    requires { TablesSized events.now free.old }
+    ensures { free.new ≡ less_path events.now minutes.start.0 minutes.end.0 b.booking.bandwidth.0 (place_path b.booking) free.old }
 {
+    let b = b.booking;
     for &link in &b.links[..b.count as usize] {
         let link = LinkNumber(link);
         take_bandwidth(events, free, minutes.start, minutes.end, link, b.bandwidth);
@@ -40,19 +43,17 @@ fn take_path(events: &[u32], free: &mut [u32], b: Booking, minutes: Interval)
 
 // Adds a booking to the events and the free figures: its two events, then its bandwidth taken. Answers whether every
 // link of its path had the bandwidth free.
-pub fn add_booking(head: Head, events: &mut [u32], free: &mut [u32], b: Booking) -> bool
-    requires room { Room events.old free.old 2 }
-    requires place_right { PlaceRight b }
-    ensures { (events.new ≡ with_span b.start.0 (release_of head b) events.old)
-        × (free.new ≡ less_path (with_span b.start.0 (release_of head b) events.old) b.start.0 (release_of head b) b.bandwidth.0 (place_path b) (with_span_rows most_links events.old b.start.0 (release_of head b) free.old))
-        × (result ≡ enough_path (with_span b.start.0 (release_of head b) events.old) b.start.0 (release_of head b) b.bandwidth.0 (place_path b) (with_span_rows most_links events.old b.start.0 (release_of head b) free.old)) }
+pub fn add_booking(head: Head, events: &mut [u32], free: &mut [u32], b: RightBooking) -> bool
+    requires { Room events.old free.old 2 }
+    ensures { let start = b.booking.start.0 in let end = release_of head b.booking in let opened = with_span start end events.old in let rows = with_span_rows most_links events.old start end free.old in
+        (events.new ≡ opened)
+        × (free.new ≡ less_path opened start end b.booking.bandwidth.0 (place_path b.booking) rows)
+        × (result ≡ enough_path opened start end b.booking.bandwidth.0 (place_path b.booking) rows) }
 {
-    let end = Minute(release(head, b.start, b.duration) as u32);
-    let minutes = Interval {
-        start: b.start,
-        end,
-    };
-    insert_span(events, free, b.start, end);
+    let start = b.booking.start;
+    let end = Minute(release(head, start, b.booking.duration) as u32);
+    let minutes = Interval { start, end };
+    insert_span(events, free, start, end);
     let table = FreeTable {
         events,
         figures: free,
@@ -80,9 +81,10 @@ pub fn rebuild(
     reset_free(free, &capacities[..links.len()]);
     let mut fits = true;
     for place in (0..head.bookings as usize).rev() {
-        if !add_booking(head, events, free, booking_at(book, place)) {
-            fits = false;
-        }
+        let b = RightBooking {
+            booking: booking_at(book, place),
+        };
+        fits &= add_booking(head, events, free, b);
     }
     fits
 }

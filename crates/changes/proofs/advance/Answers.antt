@@ -37,10 +37,10 @@ drop_ended-requires c = omega (arith, few_bookings c.requires.fine, (sizes c.req
 pub overflow_cast-head : goal.overflow_cast-head
 overflow_cast-head c = let at = goal.at.overflow_cast-head c in omega (arith, count_is at.After-drop_ended, (obeyed at.Start).not_too_many)
 
-pub rebuild-requires : goal.rebuild-requires
-rebuild-requires c = let at = goal.at.rebuild-requires c in anew_asks (sizes c.requires.fine) (obeyed at.Start) (head_after at.After-drop_ended) (book_is at.After-drop_ended)
+pub rebuild_desk-requires : goal.rebuild_desk-requires
+rebuild_desk-requires c = let at = goal.at.rebuild_desk-requires c in anew_asks (sizes c.requires.fine) (obeyed at.Start) (head_after at.After-drop_ended) (book_is at.After-drop_ended)
 
 pub returns-clause-tables : goal.returns-clause-tables
 returns-clause-tables c =
     let at = goal.at.returns-clause-tables c in
-    anew_tables (sizes c.requires.fine) (obeyed at.Start) (head_after at.After-drop_ended) (book_is at.After-drop_ended) c.rebuild.ensures.0 c.rebuild.ensures.1
+    c.rebuild_desk.ensures.tables ∙ anew_tables (sizes c.requires.fine) (obeyed at.Start) (head_after at.After-drop_ended) (book_is at.After-drop_ended)

@@ -2,7 +2,7 @@
 use Rattle.std.proofs.Common.{ap, ◌∙◌, arith}
 use Rattle.book.specs.Places.{with_booking}
 use Rattle.rules.proofs.Fine.{sizes, few_bookings}
-use Rattle.changes.proofs.Written.{granted_place, enter_asks, grant_asks, entered_tables}
+use Rattle.changes.proofs.Written.{granted_place, enter_asks, granted_right, granted_room, entered_tables}
 use Rattle.changes.proofs.enter.Goals as goal
 
 pub slot-place-requires : goal.slot-place-requires
@@ -11,8 +11,11 @@ slot-place-requires c = omega (arith, few_bookings c.requires.fine, (sizes c.req
 pub insert_booking-requires : goal.insert_booking-requires
 insert_booking-requires c = omega (arith, c.slot-place.ensures, enter_asks c.requires.fine c.requires.grantable, (sizes c.requires.fine).book_right)
 
+pub invariant_of-add_booking : goal.invariant_of-add_booking
+invariant_of-add_booking c = record { right = granted_right c.requires.fine c.requires.grantable }
+
 pub add_booking-requires : goal.add_booking-requires
-add_booking-requires c = let h = grant_asks c.requires.fine c.requires.grantable in record { room = h.0; place_right = h.1 }
+add_booking-requires c = granted_room c.requires.fine c.requires.grantable
 
 pub overflow_add-head : goal.overflow_add-head
 overflow_add-head c = omega (arith, few_bookings c.requires.fine)
