@@ -111,7 +111,7 @@ module _ (links : List Link) (head : Head) (book : List ℕ) (few : length links
 
 -- ---- one place more
 
-module _ (links : List Link) (head : Head) (book : List ℕ) {es₀ t₀ : List ℕ} (can : CanRebuild links head book es₀ t₀) where
+module _ {links : List Link} {head : Head} {book es₀ t₀ : List ℕ} (can : CanRebuild links head book es₀ t₀) where
   one_right : (i : ℕ) → i < head.bookings → BookingRight links (held_by head book) (booking_at book i)
   one_right i h = counted_one (booking_at book) (BookingRight links (held_by head book)) 0 head.bookings can.bookings_right i (omega arith) (omega arith)
 
@@ -121,35 +121,36 @@ module _ (links : List Link) (head : Head) (book : List ℕ) {es₀ t₀ : List 
   length_from : (i : ℕ) → length (from_place head book i).bookings ≡ head.bookings - i
   length_from i = length-map (count_from i (head.bookings - i)) (booking_at book) ∙ length_count i (head.bookings - i)
 
-  few_links : length links ≤ most_links
-  few_links = can.few_links
-
   can_add : (i : ℕ) → i < head.bookings → CanAdd links (from_place head book (suc i)) (booking_in book i)
   can_add i h = record {
-    few_links = few_links;
+    few_links = can.few_links;
     room = omega (arith, length_from (suc i), can.few_bookings);
     right = let r = one_right i h in right_in links (held_by head book) (from_place head book (suc i)) (booking_at book i) r.still_stands r;
     count_right = can.counts_right i h;
   }
 
   -- the booking of the place before `place`
-  module _ (place : ℕ) (some : 0 < place) (inside : place ≤ head.bookings) (b : Place) (is : b ≡ booking_in book (place - 1)) where
-    can_be : CanAdd links (from_place head book (suc (place - 1))) b
-    can_be = subst (CanAdd links (from_place head book (suc (place - 1)))) (sym is) (can_add (place - 1) (omega arith))
+  module _ {place : ℕ} {b : Place} (is : b ≡ booking_in book (place - 1)) (some : 0 < place) (inside : place ≤ head.bookings) where
+    -- the places from `place` on
+    abbrev behind : Plain
+    behind = from_place head book (suc (place - 1))
+
+    can_be : CanAdd links behind b
+    can_be = subst (CanAdd links behind) (sym is) (can_add (place - 1) (omega arith))
 
     pub right_before : PlaceRight b
-    right_before = place_right links (from_place head book (suc (place - 1))) b can_be
+    right_before = place_right links behind b can_be
 
-    -- and the tables of the places from `place` on
+    -- and their tables
     module _ {es t : List ℕ} {fits : Bool} (r : Rebuilt links (from_place head book place) es t fits) where
-      so_far : Rebuilt links (from_place head book (suc (place - 1))) es t fits
+      so_far : Rebuilt links behind es t fits
       so_far = let e : place ≡ suc (place - 1) = omega arith in subst (λ i. Rebuilt links (from_place head book i) es t fits) e r
 
       pub room_before : Room es t 2
-      room_before = rebuilt_room links (from_place head book (suc (place - 1))) b can_be so_far
+      room_before = rebuilt_room links behind b can_be so_far
 
-      pub rebuilt_before : (es' t' : List ℕ) (answer : Bool) → Adds (release_of head b) b es t es' t' answer → Rebuilt links (from_place head book (place - 1)) es' t' (fits && answer)
-      rebuilt_before es' t' answer h =
+      pub rebuilt_before : {es' t' : List ℕ} {answer : Bool} → Adds (release_of head b) b es t es' t' answer → Rebuilt links (from_place head book (place - 1)) es' t' (fits && answer)
+      rebuilt_before {es'} {t'} {answer} h =
           subst (λ p. Rebuilt links p es' t' (fits && answer))
-          (sym (from_next head book (place - 1) (omega arith) ∙ ap (λ d. put_in (booking_of d) (from_place head book (suc (place - 1)))) (sym is)))
-          (rebuilt_gives links (from_place head book (suc (place - 1))) b can_be so_far (all_stand (suc (place - 1))) es' t' answer h)
+          (sym (from_next head book (place - 1) (omega arith) ∙ ap (λ d. put_in (booking_of d) behind) (sym is)))
+          (rebuilt_gives links behind b can_be so_far (all_stand (suc (place - 1))) es' t' answer h)

@@ -18,21 +18,13 @@ loop-place-init c =
     (c.reset_free.ensures ∙ all_free_part _ (length a.links.now) _ ∙ ap₂ (λ n column. all_free n (length a.links.now) column) c.requires.free_sized capacities)
 
 pub invariant_of-b : goal.invariant_of-b
-invariant_of-b c =
-    let a = c.args in
-    record { right = right_before a.links.now a.head a.book.now c.requires c.loop-place.place (omega arith) (omega arith) c.booking_at.result c.booking_at.ensures }
+invariant_of-b c = record { right = right_before c.requires c.booking_at.ensures (omega arith) (omega arith) }
 
 pub add_booking-fits-requires : goal.add_booking-fits-requires
-add_booking-fits-requires c =
-    let a = c.args in
-    room_before a.links.now a.head a.book.now c.requires c.loop-place.place (omega arith) (omega arith) c.booking_at.result c.booking_at.ensures c.loop-place.invariant
+add_booking-fits-requires c = room_before c.requires c.booking_at.ensures (omega arith) (omega arith) c.loop-place.invariant
 
 pub loop-place-preserved : goal.loop-place-preserved
-loop-place-preserved c =
-    let a = c.args in
-    let now = c.add_booking-fits.new in
-    rebuilt_before a.links.now a.head a.book.now c.requires c.loop-place.place (omega arith) (omega arith) c.booking_at.result c.booking_at.ensures c.loop-place.invariant
-    now.events now.free c.add_booking-fits.result c.add_booking-fits.ensures
+loop-place-preserved c = rebuilt_before c.requires c.booking_at.ensures (omega arith) (omega arith) c.loop-place.invariant c.add_booking-fits.ensures
 
 pub returns : goal.returns
 returns c =
