@@ -28,6 +28,14 @@ pub fn session(seed: u64) -> Vec<u8> {
     bytes
 }
 
+/// The input of a session that the program reads in three blocks.
+pub fn long_session(seed: u64) -> Vec<u8> {
+    let mut random = Random::new(seed);
+    let style = style(&mut random);
+    let orders = random.within(8_300, 9_500);
+    orders_file(&mut random, style, orders)
+}
+
 /// The bytes of a valid head and of so many orders, a few of them damaged, each suited to what the desk then holds.
 pub fn orders_file(random: &mut Random, style: Style, orders: u64) -> Vec<u8> {
     let mut bytes = head_bytes(&net(random, style));

@@ -5,10 +5,15 @@ use std::path::PathBuf;
 use std::process::{Command, Stdio};
 
 use desk_tests::lines::output;
-use desk_tests::sessions::session;
+use desk_tests::sessions::{long_session, session};
 
 const SEED: u64 = 0xDE5_1000;
 const SESSIONS: u64 = 3_000;
+const LONG_SEED: u64 = 0xDE5_2000;
+const LONG_SESSIONS: u64 = 12;
+/// The bytes of orders that the program reads at a time, and of lines that it holds.
+const BLOCK_BYTES: usize = 65_536;
+const ORDER_BYTES: usize = 16;
 
 fn root() -> PathBuf {
     PathBuf::from(env!("CARGO_MANIFEST_DIR")).join("../..")
@@ -50,6 +55,32 @@ fn three_thousand_sessions() {
         lines += expected.lines().count();
     }
     println!("{SESSIONS} sessions, {lines} lines compared");
+}
+
+/// Whether the lines of a block's orders are more than the program holds.
+fn overflows(text: &str) -> bool {
+    let lines: Vec<&str> = text.lines().skip(1).collect();
+    let bytes = |block: &[&str]| block.iter().map(|line| line.len() + 1).sum::<usize>();
+    lines.chunks(BLOCK_BYTES / ORDER_BYTES).any(|block| BLOCK_BYTES < bytes(block))
+}
+
+#[test]
+fn sessions_of_three_blocks() {
+    let mut lines = 0;
+    let mut overflowed = 0;
+    for seed in LONG_SEED..LONG_SEED + LONG_SESSIONS {
+        let input = long_session(seed);
+        assert!(2 * BLOCK_BYTES < input.len(), "seed {seed:#x}: {} bytes", input.len());
+        let ours = String::from_utf8(written(&input)).expect("plain text");
+        let expected = output(&input);
+        assert!(ours == expected, "seed {seed:#x}, {}", difference(&ours, &expected));
+        lines += expected.lines().count();
+        overflowed += u64::from(overflows(&expected));
+    }
+    assert!(0 < overflowed, "no block's lines overflow their buffer");
+    println!(
+        "{LONG_SESSIONS} sessions of three blocks, {lines} lines compared; {overflowed} overflow the buffer of lines"
+    );
 }
 
 #[test]
