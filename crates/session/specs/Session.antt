@@ -1,0 +1,72 @@
+-- Document 01's program: the bytes of a session to its whole output, with the desk threaded through.
+use Rattle.std.specs.Prelude.{List, [], ◌∷◌, ◌++◌, ℕ, ◌+◌, ◌*◌, ◌/◌, eqb, length, drop, replicate}
+use Rattle.std.specs.Simd.{first_chunks}
+use Rattle.units.specs.declared.Link.{Link}
+use Rattle.units.specs.Limits.{most_links, most_bookings, most_events, place_size}
+use Rattle.units.specs.Lists.{within, if_so}
+use Rattle.layout.specs.Layout.{lead_bytes, link_bytes, order_bytes}
+use Rattle.layout.specs.Records.{if_passed}
+use Rattle.report.specs.declared.Report.TheVariants.{DeskLinks, DeskRefused}
+use Rattle.report.specs.Line.{line}
+use Rattle.rules.specs.Tables.{Tables, lent}
+use Rattle.opening.specs.Opened.{first_byte, Opened, opened}
+use Rattle.orders.specs.Ordered.{Ordered, ordered, line_of}
+
+-- a session under way: its links, its tables, and the place of the next order
+pub record Running : Type 0 where
+  pub links : List Link
+  pub tables : Tables
+  pub place : ℕ
+
+-- what the next order is answered
+abbrev pub answered : Running → List ℕ → Ordered
+answered r order = ordered r.links r.tables order
+
+-- the session behind it
+abbrev pub behind : Running → List ℕ → Running
+behind r order = record { links = r.links; tables = (answered r order).tables; place = r.place + 1 }
+
+-- 'one line for each order': the lines of some orders, and the session behind them
+unfoldable pub lines : Running → List (List ℕ) → List ℕ
+lines r [] = []
+lines r (order ∷ orders) = line_of r.place (answered r order) ++ lines (behind r order) orders
+
+unfoldable pub after : Running → List (List ℕ) → Running
+after r [] = r
+after r (order ∷ orders) = after (behind r order) orders
+
+-- 'orders to the end': each sixteen bytes, and 'a last piece of 1 to 15'
+abbrev pub whole_orders : List ℕ → List (List ℕ)
+whole_orders bytes = first_chunks order_bytes (length bytes / order_bytes) bytes
+
+abbrev pub cut_short : List ℕ → List ℕ
+cut_short bytes = drop (length bytes / order_bytes * order_bytes) bytes
+
+abbrev pub last_piece : List ℕ → List (List ℕ)
+last_piece [] = []
+last_piece (b ∷ bs) = (b ∷ bs) ∷ []
+
+unfoldable pub orders : List ℕ → List (List ℕ)
+orders bytes = whole_orders bytes ++ last_piece (cut_short bytes)
+
+-- the tables that the program holds before the set-up
+unfoldable pub blank : Tables
+blank =
+    lent (record { clock = record { 0 = 0 }; links = 0; bookings = 0 }) (replicate most_events 0) (replicate (most_events * most_links) 0) (replicate (most_bookings * place_size) 0)
+
+-- 'one byte with the count of links, the links, then orders': how many bytes stand before the orders. A count out of range has no links
+-- behind it
+unfoldable pub first_size : List ℕ → ℕ
+first_size bytes = lead_bytes + if_so (within 1 most_links (first_byte bytes)) (first_byte bytes * link_bytes)
+
+-- the session at its first order
+abbrev pub started : Opened → Running
+started o = record { links = o.answer.links; tables = o.tables; place = 1 }
+
+-- 'On refusal it writes `desk refused N` and stops. Otherwise `desk links N`, then one line for each order'
+abbrev pub output : Opened → List ℕ → List ℕ
+output o bytes = if_passed (eqb o.answer.refusal 0) (line 0 (DeskLinks (length o.answer.links)) [] ++ lines (started o) (orders bytes)) (line 0 (DeskRefused o.answer.refusal) [])
+
+-- the whole output
+unfoldable pub session : List ℕ → List ℕ
+session bytes = output (opened blank bytes) (drop (first_size bytes) bytes)

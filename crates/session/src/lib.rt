@@ -1,0 +1,2 @@
+// A session of orders.
+#![tactic(auto)]
