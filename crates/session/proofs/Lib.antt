@@ -1,1 +1,2 @@
 -- Laws of the definitions of `specs/`.
+pub mod Orders
