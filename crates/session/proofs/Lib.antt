@@ -1,3 +1,5 @@
 -- Laws of the definitions of `specs/`.
+pub mod Orders
 pub mod Came
 pub mod Fronts
+pub mod PlainBook
