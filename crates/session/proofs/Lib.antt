@@ -2,4 +2,5 @@
 pub mod Orders
 pub mod Came
 pub mod Fronts
+pub mod Runs
 pub mod PlainBook
