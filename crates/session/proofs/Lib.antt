@@ -1,3 +1,4 @@
 -- Laws of the definitions of `specs/`.
 pub mod Orders
 pub mod PlainBook
+pub mod Examples

@@ -17,7 +17,7 @@ use Rattle.units.specs.Refusals.{bad_size, bad_link, bad_length}
 use Rattle.units.proofs.Tests.{in_range}
 use Rattle.layout.specs.declared.Order.{Order}
 use Rattle.layout.specs.Records.{if_passed, order_read}
-use Rattle.report.specs.declared.Report.TheVariants.{DeskLinks, DeskRefused}
+use Rattle.report.specs.declared.Report.TheVariants.{DeskLinks}
 use Rattle.report.specs.Line.{line}
 use Rattle.histories.specs.Kinds as kinds
 use Rattle.rules.specs.Plain.{Plain, empty}
@@ -27,9 +27,9 @@ use Rattle.rules.specs.Desk.{outcome}
 use Rattle.rules.specs.Sound.{LinkRight, Obeys}
 use Rattle.rules.proofs.Tests.{links_tell, sized_tells}
 use Rattle.rules.proofs.Step.{set_up_accepted, set_up_leaves, obeys_empty, answers_plain, leaves_plain, stays_obeyed}
-use Rattle.opening.specs.Opened.{first_byte, links_in, bytes_refusal, Told, Opened, by_set_up, opened}
+use Rattle.opening.specs.Opened.{first_byte, links_in, bytes_refusal, by_set_up, opened}
 use Rattle.orders.specs.Ordered.{Ordered, call_of, answered_by, answered, by_reading, ordered, line_of}
-use Rattle.session.specs.Session.{Running, lines, orders, blank, first_size, output, session}
+use Rattle.session.specs.Session.{lines, orders, blank, first_size, output, session}
 use Rattle.session.specs.FromPlainBook.{plain_told, plain_next, line_at, plain_lines, plain_start, plain_output, plain_session, FromPlainBook, LinesFromPlainBook}
 
 module _ (links : List Link) (count : Within 1 most_links (length links)) where
