@@ -2,3 +2,4 @@
 pub mod Orders
 pub mod PlainBook
 pub mod Examples
+pub mod Cutting

@@ -1,3 +1,4 @@
 pub mod Session
 pub mod FromPlainBook
 pub mod Examples
+pub mod Cutting
