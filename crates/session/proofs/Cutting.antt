@@ -58,7 +58,7 @@ module _ (alone : StartsAlone) where
       let s = first_size_some a in
       ap₂ output (opened_front a b h) (ap (λ n. drop n (a ++ b)) (first_size_front a b (omega arith)) ∙ drop-append-le (first_size a) a b h)
 
-  goes_on : (a b : List ℕ) (count : ℕ) → AtBorder a count → session (a ++ b) ≡ session a ++ lines (reached a) (orders b)
+  pub goes_on : (a b : List ℕ) (count : ℕ) → AtBorder a count → session (a ++ b) ≡ session a ++ lines (reached a) (orders b)
   unfolding session
   goes_on a b count at =
       let o = opened blank a in

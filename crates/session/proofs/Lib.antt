@@ -3,3 +3,4 @@ pub mod Orders
 pub mod PlainBook
 pub mod Examples
 pub mod Cutting
+pub mod LineByLine

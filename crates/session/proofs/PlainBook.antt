@@ -68,15 +68,19 @@ set_up_number links count = rw (blank_sized links count) (by (links_ok links))
     by true = refl
     by false = refl
 
--- bytes that pass count as many links as they hold
+-- bytes that pass count as many links as they hold, in range
 length_count : (i n : ℕ) → length (count_from i n) ≡ n
 unfolding count_from
 length_count i zero = refl
 length_count i (suc n) = ap suc (length_count (suc i) n)
 
+pub links_counted : (bytes : List ℕ) → length (links_in bytes (first_byte bytes)) ≡ first_byte bytes
+unfolding links_in
+links_counted bytes = rw (length-map, length_count) refl
+
 counted : (bytes : List ℕ) → bytes_refusal bytes ≡ 0 → Within 1 most_links (length (links_in bytes (first_byte bytes)))
-unfolding bytes_refusal links_in
-counted bytes e = rw (length-map, length_count) (by _ (eqb (length bytes) 0) (within 1 most_links (first_byte bytes)) refl e)
+unfolding bytes_refusal
+counted bytes e = rw links_counted (by _ (eqb (length bytes) 0) (within 1 most_links (first_byte bytes)) refl e)
   where
     by : (n : ℕ) (none fits : Bool) → within 1 most_links (first_byte bytes) ≡ fits → if_passed none bad_length (if_passed fits n bad_size) ≡ 0 → Within 1 most_links (first_byte bytes)
     by n true fits f e = absurd (omega arith)
@@ -119,7 +123,7 @@ module _ (bytes : List ℕ) where
         by true e = refl
         by false e = absurd (omega arith)
 
-    start_tables : opened blank bytes ≡ record { answer = record { refusal = 0; links = found }; tables = tables found empty }
+    pub start_tables : opened blank bytes ≡ record { answer = record { refusal = 0; links = found }; tables = tables found empty }
     start_tables =
         let a = set_up_accepted found blank (blank_sized found (counted bytes passed)) right in
         set_up_is ∙ ap₂ (λ n t. record { answer = record { refusal = n; links = found }; tables = t }) (ap (λ a. (values a).number) a) (set_up_leaves found blank a)

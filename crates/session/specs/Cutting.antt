@@ -29,7 +29,7 @@ pub record CutAnywhere (program : List ℕ → List ℕ) : Type 0 where
   pub stops : (a b : List ℕ) → Refused a → program (a ++ b) ≡ program a
 
 -- The same without tables, figures and searches. A line begins with its place; nothing in it ends a line but its last byte.
-pub record Line (place : ℕ) (line : List ℕ) : Type 0 where
+pub record LineAt (place : ℕ) (line : List ℕ) : Type 0 where
   pub words : List ℕ
   pub one_line : All (λ b. b ≢ 10) words
   pub placed : line ≡ decimal place ++ (codes " " ++ (words ++ codes "\n"))
@@ -38,7 +38,7 @@ pub record Line (place : ℕ) (line : List ℕ) : Type 0 where
 pub record LineByLine (program : List ℕ → List ℕ) : Type 0 where
   pub first : (a : List ℕ) → AtBorder a 0 → program a ≡ codes "desk links " ++ (decimal (first_byte a) ++ codes "\n")
   pub one_more : (a order : List ℕ) (count : ℕ) → AtBorder a count → Within 1 order_bytes (length order)
-      → (line : List ℕ) × Line (count + 1) line × (program (a ++ order) ≡ program a ++ line)
+      → (line : List ℕ) × LineAt (count + 1) line × (program (a ++ order) ≡ program a ++ line)
 
 -- a booking that is accepted as any order stands for the next one: it can be cancelled then
 pub record Remembers (program : List ℕ → List ℕ) : Type 0 where
