@@ -4,3 +4,6 @@ pub mod Came
 pub mod Fronts
 pub mod Runs
 pub mod PlainBook
+pub mod Examples
+pub mod Cutting
+pub mod LineByLine

@@ -17,7 +17,7 @@ use Rattle.units.specs.Refusals.{bad_size, bad_link, bad_length}
 use Rattle.units.proofs.Tests.{in_range}
 use Rattle.layout.specs.declared.Order.{Order}
 use Rattle.layout.specs.Records.{if_passed, order_read}
-use Rattle.report.specs.declared.Report.TheVariants.{DeskLinks, DeskRefused}
+use Rattle.report.specs.declared.Report.TheVariants.{DeskLinks}
 use Rattle.report.specs.Line.{line}
 use Rattle.histories.specs.Kinds as kinds
 use Rattle.rules.specs.Plain.{Plain, empty}
@@ -27,9 +27,9 @@ use Rattle.rules.specs.Desk.{outcome}
 use Rattle.rules.specs.Sound.{LinkRight, Obeys}
 use Rattle.rules.proofs.Tests.{links_tell, sized_tells}
 use Rattle.rules.proofs.Step.{set_up_accepted, set_up_leaves, obeys_empty, answers_plain, leaves_plain, stays_obeyed}
-use Rattle.opening.specs.Opened.{first_byte, links_in, bytes_refusal, Told, Opened, by_set_up, opened}
+use Rattle.opening.specs.Opened.{first_byte, links_in, bytes_refusal, by_set_up, opened}
 use Rattle.orders.specs.Ordered.{Ordered, call_of, answered_by, answered, by_reading, ordered, line_of}
-use Rattle.session.specs.Session.{Running, lines, orders, blank, first_size, output, session}
+use Rattle.session.specs.Session.{lines, orders, blank, first_size, output, session}
 use Rattle.session.specs.FromPlainBook.{plain_told, plain_next, line_at, plain_lines, plain_start, plain_output, plain_session, FromPlainBook, LinesFromPlainBook}
 
 module _ (links : List Link) (count : Within 1 most_links (length links)) where
@@ -68,15 +68,19 @@ set_up_number links count = rw (blank_sized links count) (by (links_ok links))
     by true = refl
     by false = refl
 
--- bytes that pass count as many links as they hold
+-- bytes that pass count as many links as they hold, in range
 length_count : (i n : ℕ) → length (count_from i n) ≡ n
 unfolding count_from
 length_count i zero = refl
 length_count i (suc n) = ap suc (length_count (suc i) n)
 
+pub links_counted : (bytes : List ℕ) → length (links_in bytes (first_byte bytes)) ≡ first_byte bytes
+unfolding links_in
+links_counted bytes = rw (length-map, length_count) refl
+
 counted : (bytes : List ℕ) → bytes_refusal bytes ≡ 0 → Within 1 most_links (length (links_in bytes (first_byte bytes)))
-unfolding bytes_refusal links_in
-counted bytes e = rw (length-map, length_count) (by _ (eqb (length bytes) 0) (within 1 most_links (first_byte bytes)) refl e)
+unfolding bytes_refusal
+counted bytes e = rw links_counted (by _ (eqb (length bytes) 0) (within 1 most_links (first_byte bytes)) refl e)
   where
     by : (n : ℕ) (none fits : Bool) → within 1 most_links (first_byte bytes) ≡ fits → if_passed none bad_length (if_passed fits n bad_size) ≡ 0 → Within 1 most_links (first_byte bytes)
     by n true fits f e = absurd (omega arith)
@@ -119,7 +123,7 @@ module _ (bytes : List ℕ) where
         by true e = refl
         by false e = absurd (omega arith)
 
-    start_tables : opened blank bytes ≡ record { answer = record { refusal = 0; links = found }; tables = tables found empty }
+    pub start_tables : opened blank bytes ≡ record { answer = record { refusal = 0; links = found }; tables = tables found empty }
     start_tables =
         let a = set_up_accepted found blank (blank_sized found (counted bytes passed)) right in
         set_up_is ∙ ap₂ (λ n t. record { answer = record { refusal = n; links = found }; tables = t }) (ap (λ a. (values a).number) a) (set_up_leaves found blank a)

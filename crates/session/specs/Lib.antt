@@ -1,3 +1,5 @@
 pub mod Session
 pub mod FromPlainBook
+pub mod Examples
+pub mod Cutting
 pub mod Streaming
