@@ -1,7 +1,7 @@
 -- What a session makes of an input that comes piece by piece, and of an output that may fail: what was written was due, and the rest is due
 -- still. Where the bytes of the input are not known, as those of a pipe, nothing is said.
 use Rattle.std.specs.Prelude.{◌≡◌, ⊤, List, [], ◌++◌, Bool, true, false, ℕ, take, drop, Option, None, Some}
-use Rattle.std.specs.Io.KnownBytes.{Appends}
+use Rattle.std.specs.Io.KnownBytes.{Appends, Consumes}
 use Rattle.lent.specs.Lent.{tables_of}
 use Rattle.lent.specs.declared.Desk.{Desk}
 use Rattle.session.specs.Session.{Running, lines, orders, first_size}
@@ -13,6 +13,10 @@ abbrev pub TakesStart : Option (List ℕ) → Option (List ℕ) → List ℕ →
 TakesStart None left start = ⊤
 TakesStart (Some bytes) None start = ⊥
 TakesStart (Some bytes) (Some left) start = (start ≡ take (first_size bytes) bytes) × (left ≡ drop (first_size bytes) bytes)
+
+-- bytes of an input, behind those that came before
+abbrev pub ComesBehind : Option (List ℕ) → Option (List ℕ) → List ℕ → List ℕ → Type 0
+ComesBehind old left before all = (came : List ℕ) × Consumes old left came × (all ≡ before ++ came)
 
 -- some of these bytes, from the first on
 abbrev pub AppendsFront : Option (List ℕ) → Option (List ℕ) → List ℕ → Type 0

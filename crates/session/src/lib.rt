@@ -3,10 +3,12 @@
 // are written, before more is read.
 #![tactic(auto)]
 
-ghost use Rattle.std.specs.Prelude.{◌≡◌, ◌+◌, ◌≤◌, ◌<◌, ◌^◌, [], ◌∷◌, ◌++◌, length, OnOk, OnErr};
+ghost use Rattle.std.specs.Prelude.{◌≡◌, ◌+◌, ◌/◌, ◌≤◌, ◌<◌, ◌^◌, [], ◌∷◌, ◌++◌, length, OnOk, OnErr};
+ghost use Rattle.std.specs.Io.KnownBytes.{Appends};
+ghost use Rattle.layout.specs.Layout.{order_bytes};
 ghost use Rattle.lent.specs.Lent.{SameLoans};
 ghost use Rattle.orders.specs.Ordered.{line_of};
-ghost use Rattle.session.specs.Session.{answered, behind, lines as lines_of, after};
+ghost use Rattle.session.specs.Session.{answered, behind, lines as lines_of, after, whole_orders, last_piece};
 ghost use Rattle.session.specs.Streaming.{AppendsFront, Moves, pending, running};
 
 mod reader;
@@ -58,4 +60,45 @@ fn run_orders<W: Write>(
         run_one(output, lines, desk, order)?;
     }
     Ok(())
+}
+
+// Runs the orders that are whole in these bytes and writes their lines out.
+#[tactic(auto, using(crate::proofs::Fronts::moves_out, crate::proofs::Fronts::front_after))]
+fn answer_whole<W: Write>(
+    output: &mut W,
+    lines: &mut Lines,
+    desk: &mut Desk<'_>,
+    bytes: &[u8],
+) -> io::Result<()>
+    requires none { lines.old.used ≡ 0 }
+    requires counted { lines.old.place + length bytes.now / order_bytes < 2 ^ 64 }
+    ensures loans { SameLoans desk.old desk.new }
+    ensures none { OnOk result (lines.new.used ≡ 0) }
+    ensures runs { OnOk result (running desk.new lines.new ≡ after (running desk.old lines.old) (whole_orders bytes.now)) }
+    ensures written { OnOk result (Appends (W.contents output.old) (W.contents output.new) (lines_of (running desk.old lines.old) (whole_orders bytes.now))) }
+    ensures front { OnErr result (AppendsFront (W.contents output.old) (W.contents output.new) (lines_of (running desk.old lines.old) (whole_orders bytes.now))) }
+{
+    let (orders, _) = bytes.as_chunks::<ORDER_BYTES>();
+    run_orders(output, lines, desk, orders)?;
+    lines.write_out(output)
+}
+
+// Runs a last piece, where there is one, and writes its line out.
+fn answer_last<W: Write>(
+    output: &mut W,
+    lines: &mut Lines,
+    desk: &mut Desk<'_>,
+    piece: &[u8],
+) -> io::Result<()>
+    requires none { lines.old.used ≡ 0 }
+    requires counted { lines.old.place + 1 < 2 ^ 64 }
+    ensures loans { SameLoans desk.old desk.new }
+    ensures written { OnOk result (Appends (W.contents output.old) (W.contents output.new) (lines_of (running desk.old lines.old) (last_piece piece.now))) }
+    ensures front { OnErr result (AppendsFront (W.contents output.old) (W.contents output.new) (lines_of (running desk.old lines.old) (last_piece piece.now))) }
+{
+    if piece.is_empty() {
+        return Ok(());
+    }
+    run_one(output, lines, desk, piece)?;
+    lines.write_out(output)
 }
