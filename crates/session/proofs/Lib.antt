@@ -4,6 +4,7 @@ pub mod Came
 pub mod Start
 pub mod Fronts
 pub mod Runs
+pub mod Steps
 pub mod PlainBook
 pub mod Examples
 pub mod Cutting

@@ -1,7 +1,8 @@
 -- What a session makes of an input that comes piece by piece, and of an output that may fail: what was written was due, and the rest is due
 -- still. Where the bytes of the input are not known, as those of a pipe, nothing is said.
-use Rattle.std.specs.Prelude.{◌≡◌, ⊤, List, [], ◌++◌, Bool, true, false, ℕ, take, drop, Option, None, Some}
+use Rattle.std.specs.Prelude.{◌≡◌, ⊤, List, [], ◌++◌, Bool, true, false, ℕ, ◌/◌, take, drop, Option, None, Some}
 use Rattle.std.specs.Io.KnownBytes.{Appends, Consumes}
+use Rattle.layout.specs.Layout.{order_bytes}
 use Rattle.lent.specs.Lent.{tables_of}
 use Rattle.lent.specs.declared.Desk.{Desk}
 use Rattle.session.specs.Session.{Running, lines, orders, first_size}
@@ -30,9 +31,19 @@ pending l = take l.used l.bytes
 abbrev pub kept : Block → List ℕ
 kept b = take b.kept b.bytes
 
--- the session of a desk at the next line's place
+-- the bytes of a block that is full, and its orders
+abbrev pub block_bytes : ℕ
+block_bytes = 65536
+
+abbrev pub most_orders : ℕ
+most_orders = block_bytes / order_bytes
+
+-- the session of a desk at a place, and at that of the next line
+abbrev pub at_place : Desk → ℕ → Running
+at_place desk place = record { links = desk.links.now; tables = tables_of desk; place = place }
+
 abbrev pub running : Desk → Lines → Running
-running desk l = record { links = desk.links.now; tables = tables_of desk; place = l.place }
+running desk l = at_place desk l.place
 
 -- what is due where the input goes on with these bytes
 abbrev pub due : Running → List ℕ → List ℕ → List ℕ

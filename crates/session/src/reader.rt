@@ -5,7 +5,7 @@ ghost use Rattle.std.specs.Io.{ReadsAtMost};
 ghost use Rattle.std.specs.Io.KnownBytes.{Consumes, IsAtEnd};
 ghost use Rattle.layout.specs.Layout.{order_bytes};
 ghost use Rattle.session.specs.Session.{cut_short};
-ghost use Rattle.session.specs.Streaming.{ComesBehind, TakesStart, kept};
+ghost use Rattle.session.specs.Streaming.{ComesBehind, TakesStart, kept, block_bytes};
 
 use layout::{FIRST_BYTES, LEAD_BYTES, ORDER_BYTES};
 use opening::records_size;
@@ -68,7 +68,7 @@ impl Block {
     pub(crate) fn read_more<R: Read>(&mut self, input: &mut R) -> io::Result<usize>
         requires { self.old.kept < order_bytes }
         ensures kept { self.new.kept ≡ self.old.kept }
-        ensures within { IfOk result (λ size. size ≤ length self.new.bytes) }
+        ensures within { IfOk result (λ size. size ≤ block_bytes) }
         ensures came { IfOk result (λ size. ComesBehind (R.remaining input.old) (R.remaining input.new) (kept self.old) (take size self.new.bytes)) }
         ensures end { IfOk result (λ size. size ≡ self.old.kept → IsAtEnd (R.remaining input.new)) }
     {
@@ -79,7 +79,7 @@ impl Block {
     // Keeps what is cut short of the bytes that stand in the block.
     #[tactic(auto, using(crate::proofs::Came::moved_down))]
     pub(crate) fn keep(&mut self, size: usize)
-        requires { size ≤ length self.old.bytes }
+        requires { size ≤ block_bytes }
         ensures short { self.new.kept < order_bytes }
         ensures bytes { kept self.new ≡ cut_short (take size self.old.bytes) }
     {
