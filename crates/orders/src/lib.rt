@@ -36,7 +36,7 @@ impl From<Refusal> for Answered {
 }
 
 // What the order that the bytes hold is answered, or why it is refused: 12 and 11 where they cannot be read.
-#[tactic(auto, unfolding(crate::specs::Ordered::ordered, crate::specs::Ordered::answered, desk_core::specs::Lent::tables_after, desk_core::specs::Lent::refusal_answer, desk_core::specs::Lent::choice_answer, histories::specs::Kinds::outcome))]
+#[tactic(auto, unfolding(crate::specs::Ordered::ordered, crate::specs::Ordered::answered, sound_calls::specs::Lent::tables_after, sound_calls::specs::Lent::refusal_answer, sound_calls::specs::Lent::choice_answer, histories::specs::Kinds::outcome))]
 fn carry_out(bytes: &[u8], desk: &mut Desk<'_>) -> Result<Answered, Refusal>
     ensures loans { SameLoans desk.old desk.new }
     ensures answer { told result ≡ (ordered desk.old.links.now (tables_of desk.old) bytes.now).answer }
