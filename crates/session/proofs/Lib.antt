@@ -4,3 +4,4 @@ pub mod PlainBook
 pub mod Examples
 pub mod Cutting
 pub mod LineByLine
+pub mod Remembers

@@ -131,12 +131,12 @@ module _ (alone : StartsAlone) where
       ∙ append_assoc (codes "desk links ") (decimal (first_byte a)) (codes "\n")
 
   -- the place of the next order
-  next_place : (a : List ℕ) (count : ℕ) → AtBorder a count → (reached a).place ≡ count + 1
+  pub next_place : (a : List ℕ) (count : ℕ) → AtBorder a count → (reached a).place ≡ count + 1
   next_place a count at =
       after_place (started (opened blank a)) (orders (drop (first_size a) a))
       ∙ omega (arith, orders_count count (drop (first_size a) a) (rw length-drop (omega (arith, at.border))))
 
-  one_more : (a order : List ℕ) (count : ℕ) → AtBorder a count → Within 1 order_bytes (length order) → session (a ++ order) ≡ session a ++ line_of (count + 1) (answered (reached a) order)
+  pub one_more : (a order : List ℕ) (count : ℕ) → AtBorder a count → Within 1 order_bytes (length order) → session (a ++ order) ≡ session a ++ line_of (count + 1) (answered (reached a) order)
   unfolding lines
   one_more a order count at h =
       goes_on alone a order count at

@@ -1,5 +1,5 @@
 -- The output of a session is what the plain book answers: each order leaves the tables of the book's next state.
-use mathlib.Core.Path.{◌≡◌, refl, sym, ap, ap₂, ◌∙◌}
+use mathlib.Core.Path.{◌≡◌, refl, sym, ap, ap₂, ◌∙◌, subst}
 use mathlib.Core.List.{List, [], ◌∷◌, ◌++◌}
 use mathlib.Core.Bool.{Bool, true, false}
 use Prim.Native.Nat.{ℕ, zero, suc, ◌+◌, ◌*◌}
@@ -28,17 +28,17 @@ use Rattle.rules.specs.Sound.{LinkRight, Obeys}
 use Rattle.rules.proofs.Tests.{links_tell, sized_tells}
 use Rattle.rules.proofs.Step.{set_up_accepted, set_up_leaves, obeys_empty, answers_plain, leaves_plain, stays_obeyed}
 use Rattle.opening.specs.Opened.{first_byte, links_in, bytes_refusal, by_set_up, opened}
-use Rattle.orders.specs.Ordered.{Ordered, call_of, answered_by, answered, by_reading, ordered, line_of}
-use Rattle.session.specs.Session.{lines, orders, blank, first_size, output, session}
+use Rattle.orders.specs.Ordered.{Ordered, call_of, answered_by, answered as answered_order, by_reading, ordered, line_of}
+use Rattle.session.specs.Session.{Running, answered, behind, lines, after, started, orders, blank, first_size, output, session}
 use Rattle.session.specs.FromPlainBook.{plain_told, plain_next, line_at, plain_lines, plain_start, plain_output, plain_session, FromPlainBook, LinesFromPlainBook}
 
 module _ (links : List Link) (count : Within 1 most_links (length links)) where
-  next_obeys : (p : Plain) → Obeys links p → (read : Result Order Refusal) → Obeys links (plain_next links p read)
+  pub next_obeys : (p : Plain) → Obeys links p → (read : Result Order Refusal) → Obeys links (plain_next links p read)
   next_obeys p o (Ok order) = stays_obeyed links p o (call_of order)
   next_obeys p o (Err refusal) = o
 
   read_plain : (p : Plain) → Obeys links p → (read : Result Order Refusal) → by_reading links (tables links p) read ≡ record { answer = plain_told links p read; tables = tables links (plain_next links p read) }
-  unfolding answered
+  unfolding answered_order
   read_plain p o (Ok order) = ap₂ (λ a t. answered_by order (record { answer = a; tables = t })) (answers_plain links p o count (call_of order)) (leaves_plain links p o count (call_of order))
   read_plain p o (Err refusal) = refl
 
@@ -144,3 +144,39 @@ session_plain bytes = by (eqb (opened blank bytes).answer.refusal 0) refl
         ∙ ap (λ x. line 0 (DeskLinks (length (found bytes))) [] ++ x) (lines_from (found bytes) (counted bytes (passed bytes a)) empty 1 (orders rest) (obeys_empty (found bytes) (right bytes a)))
         ∙ ap (λ t. plain_output t rest) (sym (ap (λ o. o.answer) s) ∙ start_answer bytes)
     by false e = rw e (sym (ap (λ t. plain_output t rest) (sym (start_answer bytes)) ∙ rw e refl))
+
+-- ---- any moment of a session
+
+-- the session's tables are those of a plain book that obeys the rules
+pub record AtPlain (r : Running) : Type 0 where
+  pub count : Within 1 most_links (length r.links)
+  pub book : Plain
+  pub obeys : Obeys r.links book
+  pub tables_are : r.tables ≡ tables r.links book
+
+-- an order is answered from that book, and leaves the tables of its next state
+pub answered_plain : (r : Running) (at : AtPlain r) (order : List ℕ)
+    → answered r order ≡ record { answer = plain_told r.links at.book (order_read order); tables = tables r.links (plain_next r.links at.book (order_read order)) }
+unfolding ordered
+answered_plain r at order = ap (λ t. by_reading r.links t (order_read order)) at.tables_are ∙ read_plain r.links at.count at.book at.obeys (order_read order)
+
+abbrev pub behind_plain : (r : Running) → AtPlain r → (order : List ℕ) → AtPlain (behind r order)
+behind_plain r at order = record {
+  count = at.count;
+  book = plain_next r.links at.book (order_read order);
+  obeys = next_obeys r.links at.count at.book at.obeys (order_read order);
+  tables_are = ap (λ o. o.tables) (answered_plain r at order);
+}
+
+pub after_plain : (r : Running) → AtPlain r → (orders : List (List ℕ)) → AtPlain (after r orders)
+unfolding after
+after_plain r at [] = at
+after_plain r at (order ∷ orders) = after_plain (behind r order) (behind_plain r at order) orders
+
+pub started_plain : (bytes : List ℕ) → (opened blank bytes).answer.refusal ≡ 0 → AtPlain (started (opened blank bytes))
+started_plain bytes accepted = subst (λ o. AtPlain (started o)) (sym (start_tables bytes accepted)) (record {
+  count = counted bytes (passed bytes accepted);
+  book = empty;
+  obeys = obeys_empty (found bytes) (right bytes accepted);
+  tables_are = refl;
+})
