@@ -1,0 +1,49 @@
+-- What a session makes of an input that comes piece by piece, and of an output that may fail: what was written was due, and the rest is due
+-- still. Where the bytes of the input are not known, as those of a pipe, nothing is said.
+use Rattle.std.specs.Prelude.{◌≡◌, ⊤, List, [], ◌++◌, Bool, true, false, ℕ, take, drop, Option, None, Some}
+use Rattle.std.specs.Io.KnownBytes.{Appends}
+use Rattle.lent.specs.Lent.{tables_of}
+use Rattle.lent.specs.declared.Desk.{Desk}
+use Rattle.session.specs.Session.{Running, lines, orders, first_size}
+use Rattle.session.specs.declared.writer.Lines.{Lines}
+use Rattle.session.specs.declared.reader.Block.{Block}
+
+-- the first bytes of an input, taken off it
+abbrev pub TakesStart : Option (List ℕ) → Option (List ℕ) → List ℕ → Type 0
+TakesStart None left start = ⊤
+TakesStart (Some bytes) None start = ⊥
+TakesStart (Some bytes) (Some left) start = (start ≡ take (first_size bytes) bytes) × (left ≡ drop (first_size bytes) bytes)
+
+-- some of these bytes, from the first on
+abbrev pub AppendsFront : Option (List ℕ) → Option (List ℕ) → List ℕ → Type 0
+AppendsFront old new bytes = (n : ℕ) × Appends old new (take n bytes)
+
+-- lines that stand in a buffer, to be written
+abbrev pub pending : Lines → List ℕ
+pending l = take l.used l.bytes
+
+-- the bytes that have come of an order which is not whole yet
+abbrev pub kept : Block → List ℕ
+kept b = take b.kept b.bytes
+
+-- the session of a desk at the next line's place
+abbrev pub running : Desk → Lines → Running
+running desk l = record { links = desk.links.now; tables = tables_of desk; place = l.place }
+
+-- what is due where the input goes on with these bytes
+abbrev pub due : Running → List ℕ → List ℕ → List ℕ
+due r come bytes = lines r (orders (come ++ bytes))
+
+abbrev pub due_if : Bool → (List ℕ → List ℕ) → List ℕ → List ℕ
+due_if true still bytes = still bytes
+due_if false still bytes = []
+
+-- lines that were pending are written, or pending still
+abbrev pub Moves : Option (List ℕ) → Option (List ℕ) → List ℕ → List ℕ → Type 0
+Moves old new before after = (written : List ℕ) × Appends old new written × (before ≡ written ++ after)
+
+-- from what the input had left and the output held to what they have and hold
+abbrev pub Goes : Option (List ℕ) → Option (List ℕ) → Option (List ℕ) → Option (List ℕ) → (List ℕ → List ℕ) → (List ℕ → List ℕ) → Type 0
+Goes None left old new before after = ⊤
+Goes (Some bytes) None old new before after = ⊥
+Goes (Some bytes) (Some left) old new before after = Moves old new (before bytes) (after left)
