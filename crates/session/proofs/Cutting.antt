@@ -5,21 +5,17 @@ use mathlib.Core.List.{List, [], ◌∷◌, ◌++◌, append_assoc, append-nil}
 use Prim.Native.Nat.{ℕ, ◌*◌, ◌≤◌}
 use native.Mathlib.Omega.{arith}
 use borrow.Author.Tests.{eq-eqb, ne_eqb}
-use lib.ListN.{length, take, drop, length-drop}
+use lib.ListN.{length, drop, length-drop}
 use lib.Seq.{drop-length, take-append_seam}
 use Rattle.std.proofs.lemmas.List.{drop-append-le}
 use Rattle.layout.specs.Layout.{order_bytes}
 use Rattle.report.specs.declared.Report.TheVariants.{DeskLinks, DeskRefused}
 use Rattle.report.specs.Line.{line}
-use Rattle.rules.specs.Tables.{Tables}
-use Rattle.opening.specs.Opened.{Opened, opened}
-use Rattle.session.specs.Session.{lines, whole_orders, cut_short, last_piece, orders, blank, first_size, started, output, session}
+use Rattle.opening.specs.Opened.{first_size, Opened, opened}
+use Rattle.opening.proofs.First.{opened_first}
+use Rattle.session.specs.Session.{lines, whole_orders, cut_short, last_piece, orders, blank, started, output, session}
 use Rattle.session.specs.Cutting.{AtBorder, Refused, reached, CutAnywhere}
 use Rattle.session.proofs.Orders.{lines_append, orders_more}
-
--- the start of a session is the same for its first bytes alone
-abbrev pub StartsAlone : Type 0
-StartsAlone = (t : Tables) (bytes : List ℕ) (n : ℕ) → first_size bytes ≤ n → opened t (take n bytes) ≡ opened t bytes
 
 -- the first byte, and how many bytes stand before the orders, whatever comes behind them
 pub first_size_front : (a b : List ℕ) → 1 ≤ length a → first_size (a ++ b) ≡ first_size a
@@ -45,34 +41,33 @@ orders_cut xs ys k h =
     let e : cut_short xs ≡ [] = ap (λ n. drop n xs) (omega arith) ∙ drop-length xs in
     orders_more xs ys ∙ ap (λ c. whole_orders xs ++ orders (c ++ ys)) e ∙ sym (ap (λ c. (whole_orders xs ++ last_piece c) ++ orders ys) e ∙ ap (λ os. os ++ orders ys) (append-nil (whole_orders xs)))
 
-module _ (alone : StartsAlone) where
-  opened_front : (a b : List ℕ) → first_size a ≤ length a → opened blank (a ++ b) ≡ opened blank a
-  opened_front a b h =
-      let s = first_size_some a in
-      sym (alone blank (a ++ b) (length a) (rw (first_size_front a b (omega arith)) h)) ∙ ap (opened blank) (take-append_seam a b)
+opened_front : (a b : List ℕ) → first_size a ≤ length a → opened blank (a ++ b) ≡ opened blank a
+opened_front a b h =
+    let s = first_size_some a in
+    sym (opened_first blank (a ++ b) (length a) (rw (first_size_front a b (omega arith)) h)) ∙ ap (opened blank) (take-append_seam a b)
 
-  -- the output of what comes behind
-  session_front : (a b : List ℕ) → first_size a ≤ length a → session (a ++ b) ≡ output (opened blank a) (drop (first_size a) a ++ b)
-  unfolding session
-  session_front a b h =
-      let s = first_size_some a in
-      ap₂ output (opened_front a b h) (ap (λ n. drop n (a ++ b)) (first_size_front a b (omega arith)) ∙ drop-append-le (first_size a) a b h)
+-- the output of what comes behind
+session_front : (a b : List ℕ) → first_size a ≤ length a → session (a ++ b) ≡ output (opened blank a) (drop (first_size a) a ++ b)
+unfolding session
+session_front a b h =
+    let s = first_size_some a in
+    ap₂ output (opened_front a b h) (ap (λ n. drop n (a ++ b)) (first_size_front a b (omega arith)) ∙ drop-append-le (first_size a) a b h)
 
-  pub goes_on : (a b : List ℕ) (count : ℕ) → AtBorder a count → session (a ++ b) ≡ session a ++ lines (reached a) (orders b)
-  unfolding session
-  goes_on a b count at =
-      let o = opened blank a in
-      let rest = drop (first_size a) a in
-      let first = line 0 (DeskLinks (length o.answer.links)) [] in
-      session_front a b (omega (arith, at.border))
-      ∙ output_accepted o (rest ++ b) at.accepted
-      ∙ ap (λ x. first ++ x) (ap (lines (started o)) (orders_cut rest b count (rw length-drop (omega (arith, at.border)))) ∙ lines_append (started o) (orders rest) (orders b))
-      ∙ sym (append_assoc first _ _)
-      ∙ sym (ap (λ x. x ++ lines (reached a) (orders b)) (output_accepted o rest at.accepted))
+pub goes_on : (a b : List ℕ) (count : ℕ) → AtBorder a count → session (a ++ b) ≡ session a ++ lines (reached a) (orders b)
+unfolding session
+goes_on a b count at =
+    let o = opened blank a in
+    let rest = drop (first_size a) a in
+    let first = line 0 (DeskLinks (length o.answer.links)) [] in
+    session_front a b (omega (arith, at.border))
+    ∙ output_accepted o (rest ++ b) at.accepted
+    ∙ ap (λ x. first ++ x) (ap (lines (started o)) (orders_cut rest b count (rw length-drop (omega (arith, at.border)))) ∙ lines_append (started o) (orders rest) (orders b))
+    ∙ sym (append_assoc first _ _)
+    ∙ sym (ap (λ x. x ++ lines (reached a) (orders b)) (output_accepted o rest at.accepted))
 
-  stops : (a b : List ℕ) → Refused a → session (a ++ b) ≡ session a
-  unfolding session
-  stops a b r = session_front a b r.whole ∙ output_refused (opened blank a) (drop (first_size a) a ++ b) r.refused ∙ sym (output_refused (opened blank a) (drop (first_size a) a) r.refused)
+stops : (a b : List ℕ) → Refused a → session (a ++ b) ≡ session a
+unfolding session
+stops a b r = session_front a b r.whole ∙ output_refused (opened blank a) (drop (first_size a) a ++ b) r.refused ∙ sym (output_refused (opened blank a) (drop (first_size a) a) r.refused)
 
-  pub cut_anywhere : CutAnywhere session
-  cut_anywhere = record { goes_on = goes_on; stops = stops }
+pub cut_anywhere : CutAnywhere session
+cut_anywhere = record { goes_on = goes_on; stops = stops }

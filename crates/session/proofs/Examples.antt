@@ -10,8 +10,8 @@ use Rattle.report.specs.Decimal.{digits, decimal}
 use Rattle.report.specs.Line.{numbers, route as route_text, answer, line}
 use Rattle.histories.specs.Kinds as kinds
 use Rattle.rules.specs.Calls.{checked, best}
-use Rattle.opening.specs.Opened.{link_record, links_refusal, links_in, bytes_refusal}
-use Rattle.session.specs.Session.{orders, first_size, session}
+use Rattle.opening.specs.Opened.{first_size, link_record, links_refusal, links_in, bytes_refusal}
+use Rattle.session.specs.Session.{orders, session}
 use Rattle.session.specs.FromPlainBook.{plain_lines, plain_session}
 use Rattle.session.specs.Examples.{session_bytes, PrintsSession}
 use Rattle.session.proofs.PlainBook.{session_plain}

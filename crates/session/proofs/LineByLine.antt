@@ -27,13 +27,13 @@ use Rattle.report.specs.Line.{numbers, route, answer, line}
 use Rattle.report.proofs.Decimals.{only_digits}
 use Rattle.rules.specs.Calls.{Values}
 use Rattle.rules.specs.Tables.{Tables}
-use Rattle.opening.specs.Opened.{first_byte, opened}
+use Rattle.opening.specs.Opened.{first_byte, first_size, opened}
 use Rattle.orders.specs.Ordered.{answered as answered_order, by_reading, ordered, accepted, line_of}
-use Rattle.session.specs.Session.{answered, lines, last_piece, orders, blank, first_size, started, session}
+use Rattle.session.specs.Session.{answered, lines, last_piece, orders, blank, started, session}
 use Rattle.session.specs.Cutting.{AtBorder, reached, LineAt, LineByLine}
 use Rattle.session.proofs.Orders.{after_place, orders_short, orders_first, orders_front}
 use Rattle.session.proofs.PlainBook.{links_counted, start_tables}
-use Rattle.session.proofs.Cutting.{StartsAlone, output_accepted, goes_on}
+use Rattle.session.proofs.Cutting.{output_accepted, goes_on}
 
 -- ---- a line
 
@@ -119,31 +119,30 @@ orders_count k bytes h =
     ap length (orders_front k bytes (omega arith) ∙ ap (λ x. first_chunks order_bytes k bytes ++ x) (ap orders (drop_all (k * order_bytes) bytes (omega arith)) ∙ orders_none) ∙ append-nil _)
     ∙ length_chunks order_bytes k bytes
 
-module _ (alone : StartsAlone) where
-  first : (a : List ℕ) → AtBorder a 0 → session a ≡ codes "desk links " ++ (decimal (first_byte a) ++ codes "\n")
-  unfolding session lines answer line
-  first a at =
-      let rest = drop (first_size a) a in
-      let s = start_tables a at.accepted in
-      output_accepted (opened blank a) rest at.accepted
-      ∙ ap₂ (λ n os. line 0 (reports.DeskLinks n) [] ++ lines (started (opened blank a)) os) (ap (λ o. length o.answer.links) s ∙ links_counted a) (ap orders (drop_all (first_size a) a (omega (arith, at.border))) ∙ orders_none)
-      ∙ append-nil (line 0 (reports.DeskLinks (first_byte a)) [])
-      ∙ append_assoc (codes "desk links ") (decimal (first_byte a)) (codes "\n")
+first : (a : List ℕ) → AtBorder a 0 → session a ≡ codes "desk links " ++ (decimal (first_byte a) ++ codes "\n")
+unfolding session lines answer line
+first a at =
+    let rest = drop (first_size a) a in
+    let s = start_tables a at.accepted in
+    output_accepted (opened blank a) rest at.accepted
+    ∙ ap₂ (λ n os. line 0 (reports.DeskLinks n) [] ++ lines (started (opened blank a)) os) (ap (λ o. length o.answer.links) s ∙ links_counted a) (ap orders (drop_all (first_size a) a (omega (arith, at.border))) ∙ orders_none)
+    ∙ append-nil (line 0 (reports.DeskLinks (first_byte a)) [])
+    ∙ append_assoc (codes "desk links ") (decimal (first_byte a)) (codes "\n")
 
-  -- the place of the next order
-  pub next_place : (a : List ℕ) (count : ℕ) → AtBorder a count → (reached a).place ≡ count + 1
-  next_place a count at =
-      after_place (started (opened blank a)) (orders (drop (first_size a) a))
-      ∙ omega (arith, orders_count count (drop (first_size a) a) (rw length-drop (omega (arith, at.border))))
+-- the place of the next order
+pub next_place : (a : List ℕ) (count : ℕ) → AtBorder a count → (reached a).place ≡ count + 1
+next_place a count at =
+    after_place (started (opened blank a)) (orders (drop (first_size a) a))
+    ∙ omega (arith, orders_count count (drop (first_size a) a) (rw length-drop (omega (arith, at.border))))
 
-  pub one_more : (a order : List ℕ) (count : ℕ) → AtBorder a count → Within 1 order_bytes (length order) → session (a ++ order) ≡ session a ++ line_of (count + 1) (answered (reached a) order)
-  unfolding lines
-  one_more a order count at h =
-      goes_on alone a order count at
-      ∙ ap (λ x. session a ++ x) (ap (lines (reached a)) (orders_one order h) ∙ append-nil _ ∙ ap (λ n. line_of n (answered (reached a) order)) (next_place a count at))
+pub one_more : (a order : List ℕ) (count : ℕ) → AtBorder a count → Within 1 order_bytes (length order) → session (a ++ order) ≡ session a ++ line_of (count + 1) (answered (reached a) order)
+unfolding lines
+one_more a order count at h =
+    goes_on a order count at
+    ∙ ap (λ x. session a ++ x) (ap (lines (reached a)) (orders_one order h) ∙ append-nil _ ∙ ap (λ n. line_of n (answered (reached a) order)) (next_place a count at))
 
-  pub line_by_line : LineByLine session
-  line_by_line = record {
-    first = first;
-    one_more = λ a order count at h. (line_of (count + 1) (answered (reached a) order), ordered_line (reached a).links (reached a).tables order (count + 1), one_more a order count at h);
-  }
+pub line_by_line : LineByLine session
+line_by_line = record {
+  first = first;
+  one_more = λ a order count at h. (line_of (count + 1) (answered (reached a) order), ordered_line (reached a).links (reached a).tables order (count + 1), one_more a order count at h);
+}

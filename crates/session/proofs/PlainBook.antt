@@ -27,9 +27,9 @@ use Rattle.rules.specs.Desk.{outcome}
 use Rattle.rules.specs.Sound.{LinkRight, Obeys}
 use Rattle.rules.proofs.Tests.{links_tell, sized_tells}
 use Rattle.rules.proofs.Step.{set_up_accepted, set_up_leaves, obeys_empty, answers_plain, leaves_plain, stays_obeyed}
-use Rattle.opening.specs.Opened.{first_byte, links_in, bytes_refusal, by_set_up, opened}
+use Rattle.opening.specs.Opened.{first_byte, first_size, links_in, bytes_refusal, by_set_up, opened}
 use Rattle.orders.specs.Ordered.{Ordered, call_of, answered_by, answered as answered_order, by_reading, ordered, line_of}
-use Rattle.session.specs.Session.{Running, answered, behind, lines, after, started, orders, blank, first_size, output, session}
+use Rattle.session.specs.Session.{Running, answered, behind, lines, after, started, orders, blank, output, session}
 use Rattle.session.specs.FromPlainBook.{plain_told, plain_next, line_at, plain_lines, plain_start, plain_output, plain_session, FromPlainBook, LinesFromPlainBook}
 
 module _ (links : List Link) (count : Within 1 most_links (length links)) where

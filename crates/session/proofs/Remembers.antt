@@ -30,13 +30,13 @@ use Rattle.rules.specs.Plain.{Booking, Plain, terms, graph, carries, low}
 use Rattle.rules.specs.Calls.{book, cancel, ask, done, starts, refuse, checked, own_checks, number_ok, request_ok, stands, chosen, best, put_in, next}
 use Rattle.rules.specs.Desk.{answer as plain_answer}
 use Rattle.rules.proofs.Checks.{starts≢refuse, passed_answer, passed_all}
-use Rattle.opening.specs.Opened.{opened}
+use Rattle.opening.specs.Opened.{first_size, opened}
 use Rattle.orders.specs.Ordered.{line_of}
-use Rattle.session.specs.Session.{Running, answered, behind, lines, orders, blank, first_size, started, session}
+use Rattle.session.specs.Session.{Running, answered, behind, lines, orders, blank, started, session}
 use Rattle.session.specs.FromPlainBook.{plain_told, plain_next, line_at, shown}
 use Rattle.session.specs.Cutting.{AtBorder, reached, Remembers}
 use Rattle.session.proofs.PlainBook.{AtPlain, answered_plain, behind_plain, after_plain, started_plain}
-use Rattle.session.proofs.Cutting.{StartsAlone, goes_on, orders_cut}
+use Rattle.session.proofs.Cutting.{goes_on, orders_cut}
 use Rattle.session.proofs.LineByLine.{orders_one, next_place, one_more}
 
 -- only sixteen bytes are read as an order
@@ -120,48 +120,47 @@ module _ (r : Running) (at : AtPlain r) (booking cancellation : List ℕ) (numbe
 
 -- ---- the session
 
-module _ (alone : StartsAlone) where
-  lines_of_two : (a booking cancellation : List ℕ) (count : ℕ) → AtBorder a count → length booking ≡ order_bytes → length cancellation ≡ order_bytes
-      → lines (reached a) (orders (booking ++ cancellation)) ≡ line_of (count + 1) (answered (reached a) booking) ++ line_of (count + 1 + 1) (answered (behind (reached a) booking) cancellation)
-  unfolding lines
-  lines_of_two a booking cancellation count at h k =
-      ap (lines (reached a)) (orders_cut booking cancellation 1 (omega arith) ∙ ap₂ ◌++◌ (orders_one booking (omega arith, omega arith)) (orders_one cancellation (omega arith, omega arith)))
-      ∙ ap₂ (λ place l. line_of place (answered (reached a) booking) ++ l) (next_place alone a count at)
-      (append-nil _ ∙ ap (λ place. line_of (place + 1) (answered (behind (reached a) booking) cancellation)) (next_place alone a count at))
+lines_of_two : (a booking cancellation : List ℕ) (count : ℕ) → AtBorder a count → length booking ≡ order_bytes → length cancellation ≡ order_bytes
+    → lines (reached a) (orders (booking ++ cancellation)) ≡ line_of (count + 1) (answered (reached a) booking) ++ line_of (count + 1 + 1) (answered (behind (reached a) booking) cancellation)
+unfolding lines
+lines_of_two a booking cancellation count at h k =
+    ap (lines (reached a)) (orders_cut booking cancellation 1 (omega arith) ∙ ap₂ ◌++◌ (orders_one booking (omega arith, omega arith)) (orders_one cancellation (omega arith, omega arith)))
+    ∙ ap₂ (λ place l. line_of place (answered (reached a) booking) ++ l) (next_place a count at)
+    (append-nil _ ∙ ap (λ place. line_of (place + 1) (answered (behind (reached a) booking) cancellation)) (next_place a count at))
 
-  two_more : (a booking cancellation : List ℕ) (count : ℕ) → AtBorder a count → length booking ≡ order_bytes → length cancellation ≡ order_bytes
-      → (session (a ++ booking) ≡ session a ++ line_of (count + 1) (answered (reached a) booking))
-      × (session (a ++ (booking ++ cancellation)) ≡ session (a ++ booking) ++ line_of (count + 1 + 1) (answered (behind (reached a) booking) cancellation))
-  two_more a booking cancellation count at h k =
-      let r = reached a in
-      let second = line_of (count + 1 + 1) (answered (behind r booking) cancellation) in
-      let one = one_more alone a booking count at (omega arith, omega arith) in (
-        one,
-        goes_on alone a (booking ++ cancellation) count at
-            ∙ ap (λ x. session a ++ x) (lines_of_two a booking cancellation count at h k)
-            ∙ sym (append_assoc (session a) _ second)
-            ∙ ap (λ x. x ++ second) (sym one),
-      )
+two_more : (a booking cancellation : List ℕ) (count : ℕ) → AtBorder a count → length booking ≡ order_bytes → length cancellation ≡ order_bytes
+    → (session (a ++ booking) ≡ session a ++ line_of (count + 1) (answered (reached a) booking))
+    × (session (a ++ (booking ++ cancellation)) ≡ session (a ++ booking) ++ line_of (count + 1 + 1) (answered (behind (reached a) booking) cancellation))
+two_more a booking cancellation count at h k =
+    let r = reached a in
+    let second = line_of (count + 1 + 1) (answered (behind r booking) cancellation) in
+    let one = one_more a booking count at (omega arith, omega arith) in (
+      one,
+      goes_on a (booking ++ cancellation) count at
+          ∙ ap (λ x. session a ++ x) (lines_of_two a booking cancellation count at h k)
+          ∙ sym (append_assoc (session a) _ second)
+          ∙ ap (λ x. x ++ second) (sym one),
+    )
 
-  -- the second line by the place of the first
-  second_line : (a booking cancellation : List ℕ) (count number : ℕ) (wish : Wish) (words : List ℕ) → AtBorder a count
-      → order_read booking ≡ Ok (orders_of.Book number wish) → order_read cancellation ≡ Ok (orders_of.Cancel number)
-      → line_of (count + 1) (answered (reached a) booking) ≡ decimal (count + 1) ++ (codes " booked " ++ words)
-      → line_of (count + 1 + 1) (answered (behind (reached a) booking) cancellation) ≡ decimal (count + 1 + 1) ++ (codes " cancelled " ++ (decimal number ++ codes "\n"))
-  second_line a booking cancellation count number wish words at first second =
-      let r = reached a in
-      let plain = after_plain (started (opened blank a)) (started_plain a at.accepted) (orders (drop (first_size a) a)) in
-      subst
-      (λ place. line_of place (answered r booking) ≡ decimal place ++ (codes " booked " ++ words)
-      → line_of (place + 1) (answered (behind r booking) cancellation) ≡ decimal (place + 1) ++ (codes " cancelled " ++ (decimal number ++ codes "\n")))
-      (next_place alone a count at) (cancels_next r plain booking cancellation number wish first second words)
+-- the second line by the place of the first
+second_line : (a booking cancellation : List ℕ) (count number : ℕ) (wish : Wish) (words : List ℕ) → AtBorder a count
+    → order_read booking ≡ Ok (orders_of.Book number wish) → order_read cancellation ≡ Ok (orders_of.Cancel number)
+    → line_of (count + 1) (answered (reached a) booking) ≡ decimal (count + 1) ++ (codes " booked " ++ words)
+    → line_of (count + 1 + 1) (answered (behind (reached a) booking) cancellation) ≡ decimal (count + 1 + 1) ++ (codes " cancelled " ++ (decimal number ++ codes "\n"))
+second_line a booking cancellation count number wish words at first second =
+    let r = reached a in
+    let plain = after_plain (started (opened blank a)) (started_plain a at.accepted) (orders (drop (first_size a) a)) in
+    subst
+    (λ place. line_of place (answered r booking) ≡ decimal place ++ (codes " booked " ++ words)
+    → line_of (place + 1) (answered (behind r booking) cancellation) ≡ decimal (place + 1) ++ (codes " cancelled " ++ (decimal number ++ codes "\n")))
+    (next_place a count at) (cancels_next r plain booking cancellation number wish first second words)
 
-  pub remembers : Remembers session
-  remembers = record {
-    cancels = λ a booking cancellation count number wish words at first second e.
-        let two = two_more a booking cancellation count at (read_length booking _ first) (read_length cancellation _ second) in
-        two.1
-        ∙ ap (λ x. session (a ++ booking) ++ x)
-        (second_line a booking cancellation count number wish words at first second (append_cancel_left (session a) _ _ (sym two.0 ∙ e))
-        ∙ ap (λ n. decimal n ++ (codes " cancelled " ++ (decimal number ++ codes "\n"))) (omega arith));
-  }
+pub remembers : Remembers session
+remembers = record {
+  cancels = λ a booking cancellation count number wish words at first second e.
+      let two = two_more a booking cancellation count at (read_length booking _ first) (read_length cancellation _ second) in
+      two.1
+      ∙ ap (λ x. session (a ++ booking) ++ x)
+      (second_line a booking cancellation count number wish words at first second (append_cancel_left (session a) _ _ (sym two.0 ∙ e))
+      ∙ ap (λ n. decimal n ++ (codes " cancelled " ++ (decimal number ++ codes "\n"))) (omega arith));
+}

@@ -6,8 +6,8 @@ use Rattle.layout.specs.declared.Wish.{Wish}
 use Rattle.layout.specs.Layout.{order_bytes}
 use Rattle.layout.specs.Records.{order_read}
 use Rattle.report.specs.Decimal.{decimal}
-use Rattle.opening.specs.Opened.{first_byte, opened}
-use Rattle.session.specs.Session.{Running, lines, after, orders, blank, first_size, started}
+use Rattle.opening.specs.Opened.{first_byte, first_size, opened}
+use Rattle.session.specs.Session.{Running, lines, after, orders, blank, started}
 
 -- bytes that hold a start that is accepted, and this many whole orders
 pub record AtBorder (bytes : List ℕ) (count : ℕ) : Type 0 where
