@@ -12,20 +12,15 @@ ghost use Rattle.session.specs.Streaming.{AppendsFront, Moves, pending, running}
 mod reader;
 mod writer;
 
-use layout::ORDER_BYTES;
 use lent::Desk;
+use layout::ORDER_BYTES;
 use orders::run_order;
 use std::io::{self, Write};
 use writer::Lines;
 
 // Runs one order, whose line is written behind the others.
 #[tactic(auto, using(crate::proofs::Fronts::front_more))]
-fn run_one<W: Write>(
-    output: &mut W,
-    lines: &mut Lines,
-    desk: &mut Desk<'_>,
-    order: &[u8],
-) -> io::Result<()>
+fn run_one<W: Write>(output: &mut W, lines: &mut Lines, desk: &mut Desk<'_>, order: &[u8]) -> io::Result<()>
     requires within { lines.old.used ≤ length lines.old.bytes }
     requires counted { lines.old.place + 1 < 2 ^ 64 }
     ensures loans { SameLoans desk.old desk.new }
