@@ -3,8 +3,3 @@ pub mod Orders
 pub mod Came
 pub mod Fronts
 pub mod Runs
-pub mod PlainBook
-pub mod Examples
-pub mod Cutting
-pub mod LineByLine
-pub mod Remembers

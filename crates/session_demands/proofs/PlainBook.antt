@@ -30,7 +30,7 @@ use Rattle.rules.proofs.Step.{set_up_accepted, set_up_leaves, obeys_empty, answe
 use Rattle.opening.specs.Opened.{first_byte, first_size, links_in, bytes_refusal, by_set_up, opened}
 use Rattle.orders.specs.Ordered.{Ordered, call_of, answered_by, answered as answered_order, by_reading, ordered, line_of}
 use Rattle.session.specs.Session.{Running, answered, behind, lines, after, started, orders, blank, output, session}
-use Rattle.session.specs.FromPlainBook.{plain_told, plain_next, line_at, plain_lines, plain_start, plain_output, plain_session, FromPlainBook, LinesFromPlainBook}
+use Rattle.session_demands.specs.FromPlainBook.{plain_told, plain_next, line_at, plain_lines, plain_start, plain_output, plain_session, FromPlainBook, LinesFromPlainBook}
 
 module _ (links : List Link) (count : Within 1 most_links (length links)) where
   pub next_obeys : (p : Plain) → Obeys links p → (read : Result Order Refusal) → Obeys links (plain_next links p read)

@@ -33,11 +33,11 @@ use Rattle.rules.proofs.Checks.{starts≢refuse, passed_answer, passed_all}
 use Rattle.opening.specs.Opened.{first_size, opened}
 use Rattle.orders.specs.Ordered.{line_of}
 use Rattle.session.specs.Session.{Running, answered, behind, lines, orders, blank, started, session}
-use Rattle.session.specs.FromPlainBook.{plain_told, plain_next, line_at, shown}
-use Rattle.session.specs.Cutting.{AtBorder, reached, Remembers}
-use Rattle.session.proofs.PlainBook.{AtPlain, answered_plain, behind_plain, after_plain, started_plain}
-use Rattle.session.proofs.Cutting.{goes_on, orders_cut}
-use Rattle.session.proofs.LineByLine.{orders_one, next_place, one_more}
+use Rattle.session_demands.specs.FromPlainBook.{plain_told, plain_next, line_at, shown}
+use Rattle.session_demands.specs.Cutting.{AtBorder, reached, Remembers}
+use Rattle.session_demands.proofs.PlainBook.{AtPlain, answered_plain, behind_plain, after_plain, started_plain}
+use Rattle.session_demands.proofs.Cutting.{goes_on, orders_cut}
+use Rattle.session_demands.proofs.LineByLine.{orders_one, next_place, one_more}
 
 -- only sixteen bytes are read as an order
 pub read_length : (bytes : List ℕ) (order : Order) → order_read bytes ≡ Ok order → length bytes ≡ order_bytes

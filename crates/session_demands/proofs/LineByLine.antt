@@ -30,10 +30,10 @@ use Rattle.rules.specs.Tables.{Tables}
 use Rattle.opening.specs.Opened.{first_byte, first_size, opened}
 use Rattle.orders.specs.Ordered.{answered as answered_order, by_reading, ordered, accepted, line_of}
 use Rattle.session.specs.Session.{answered, lines, last_piece, orders, blank, started, session}
-use Rattle.session.specs.Cutting.{AtBorder, reached, LineAt, LineByLine}
+use Rattle.session_demands.specs.Cutting.{AtBorder, reached, LineAt, LineByLine}
 use Rattle.session.proofs.Orders.{after_place, orders_short, orders_first, orders_front}
-use Rattle.session.proofs.PlainBook.{links_counted, start_tables}
-use Rattle.session.proofs.Cutting.{output_accepted, goes_on}
+use Rattle.session_demands.proofs.PlainBook.{links_counted, start_tables}
+use Rattle.session_demands.proofs.Cutting.{output_accepted, goes_on}
 
 -- ---- a line
 

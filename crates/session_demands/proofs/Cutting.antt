@@ -14,7 +14,7 @@ use Rattle.report.specs.Line.{line}
 use Rattle.opening.specs.Opened.{first_size, Opened, opened}
 use Rattle.opening.proofs.First.{opened_first}
 use Rattle.session.specs.Session.{lines, whole_orders, cut_short, last_piece, orders, blank, started, output, session}
-use Rattle.session.specs.Cutting.{AtBorder, Refused, reached, CutAnywhere}
+use Rattle.session_demands.specs.Cutting.{AtBorder, Refused, reached, CutAnywhere}
 use Rattle.session.proofs.Orders.{lines_append, orders_more}
 
 -- the first byte, and how many bytes stand before the orders, whatever comes behind them
