@@ -2,10 +2,10 @@
 use mathlib.Core.Path.{◌≡◌, refl, sym, ap, ap₂, ◌∙◌}
 use mathlib.Core.Logic.{◌≢◌}
 use mathlib.Core.List.{List, [], ◌∷◌, ◌++◌, append_assoc, append-nil}
-use Prim.Native.Nat.{ℕ, ◌*◌, ◌≤◌}
+use Prim.Native.Nat.{ℕ, ◌+◌, ◌*◌, ◌≤◌}
 use native.Mathlib.Omega.{arith}
 use borrow.Author.Tests.{eq-eqb, ne_eqb}
-use lib.ListN.{length, drop, length-drop}
+use lib.ListN.{length, drop, length-drop, length-append}
 use lib.Seq.{drop-length, take-append_seam}
 use Rattle.std.proofs.lemmas.List.{drop-append-le}
 use Rattle.layout.specs.Layout.{order_bytes}
@@ -46,12 +46,21 @@ opened_front a b h =
     let s = first_size_some a in
     sym (opened_first blank (a ++ b) (length a) (rw (first_size_front a b (omega arith)) h)) ∙ ap (opened blank) (take-append_seam a b)
 
--- the output of what comes behind
-session_front : (a b : List ℕ) → first_size a ≤ length a → session (a ++ b) ≡ output (opened blank a) (drop (first_size a) a ++ b)
-unfolding session
-session_front a b h =
+-- what looks at the start and the bytes behind it alone, where more comes behind those
+pub front : {X : Type 0} (out : Opened → List ℕ → X) (a b : List ℕ) → first_size a ≤ length a
+    → out (opened blank (a ++ b)) (drop (first_size (a ++ b)) (a ++ b)) ≡ out (opened blank a) (drop (first_size a) a ++ b)
+front out a b h =
     let s = first_size_some a in
-    ap₂ output (opened_front a b h) (ap (λ n. drop n (a ++ b)) (first_size_front a b (omega arith)) ∙ drop-append-le (first_size a) a b h)
+    ap₂ out (opened_front a b h) (ap (λ n. drop n (a ++ b)) (first_size_front a b (omega arith)) ∙ drop-append-le (first_size a) a b h)
+
+-- a border behind a border
+pub border_more : (a b : List ℕ) (count n : ℕ) → AtBorder a count → length b ≡ n * order_bytes → AtBorder (a ++ b) (count + n)
+border_more a b count n at h =
+    let s = first_size_some a in
+    record {
+      accepted = ap (λ o. o.answer.refusal) (opened_front a b (omega (arith, at.border))) ∙ at.accepted;
+      border = omega (arith, length-append a b, first_size_front a b (omega (arith, at.border)), at.border);
+    }
 
 pub goes_on : (a b : List ℕ) (count : ℕ) → AtBorder a count → session (a ++ b) ≡ session a ++ lines (reached a) (orders b)
 unfolding session
@@ -59,7 +68,7 @@ goes_on a b count at =
     let o = opened blank a in
     let rest = drop (first_size a) a in
     let first = line 0 (DeskLinks (length o.answer.links)) [] in
-    session_front a b (omega (arith, at.border))
+    front output a b (omega (arith, at.border))
     ∙ output_accepted o (rest ++ b) at.accepted
     ∙ ap (λ x. first ++ x) (ap (lines (started o)) (orders_cut rest b count (rw length-drop (omega (arith, at.border)))) ∙ lines_append (started o) (orders rest) (orders b))
     ∙ sym (append_assoc first _ _)
@@ -67,7 +76,7 @@ goes_on a b count at =
 
 stops : (a b : List ℕ) → Refused a → session (a ++ b) ≡ session a
 unfolding session
-stops a b r = session_front a b r.whole ∙ output_refused (opened blank a) (drop (first_size a) a ++ b) r.refused ∙ sym (output_refused (opened blank a) (drop (first_size a) a) r.refused)
+stops a b r = front output a b r.whole ∙ output_refused (opened blank a) (drop (first_size a) a ++ b) r.refused ∙ sym (output_refused (opened blank a) (drop (first_size a) a) r.refused)
 
 pub cut_anywhere : CutAnywhere session
 cut_anywhere = record { goes_on = goes_on; stops = stops }

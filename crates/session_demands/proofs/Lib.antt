@@ -4,3 +4,4 @@ pub mod Examples
 pub mod Cutting
 pub mod LineByLine
 pub mod Remembers
+pub mod Shams

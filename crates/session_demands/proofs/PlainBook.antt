@@ -78,7 +78,7 @@ pub links_counted : (bytes : List ℕ) → length (links_in bytes (first_byte by
 unfolding links_in
 links_counted bytes = rw (length-map, length_count) refl
 
-counted : (bytes : List ℕ) → bytes_refusal bytes ≡ 0 → Within 1 most_links (length (links_in bytes (first_byte bytes)))
+pub counted : (bytes : List ℕ) → bytes_refusal bytes ≡ 0 → Within 1 most_links (length (links_in bytes (first_byte bytes)))
 unfolding bytes_refusal
 counted bytes e = rw links_counted (by _ (eqb (length bytes) 0) (within 1 most_links (first_byte bytes)) refl e)
   where
@@ -88,10 +88,10 @@ counted bytes e = rw links_counted (by _ (eqb (length bytes) 0) (within 1 most_l
     by n false false f e = absurd (omega arith)
 
 module _ (bytes : List ℕ) where
-  abbrev found : List Link
+  abbrev pub found : List Link
   found = links_in bytes (first_byte bytes)
 
-  start_answer : (opened blank bytes).answer ≡ plain_start bytes
+  pub start_answer : (opened blank bytes).answer ≡ plain_start bytes
   unfolding opened
   start_answer = by (eqb (bytes_refusal bytes) 0) refl
     where
@@ -103,7 +103,7 @@ module _ (bytes : List ℕ) where
 
   -- an accepted start leaves the tables of the empty plain book
   module _ (accepted : (opened blank bytes).answer.refusal ≡ 0) where
-    passed : bytes_refusal bytes ≡ 0
+    pub passed : bytes_refusal bytes ≡ 0
     unfolding opened
     passed = by (eqb (bytes_refusal bytes) 0) refl accepted
       where
@@ -116,7 +116,7 @@ module _ (bytes : List ℕ) where
     unfolding opened
     set_up_is = rw passed refl
 
-    right : All LinkRight found
+    pub right : All LinkRight found
     right = (links_tell found).0 (by (links_ok found) (sym (set_up_number found (counted bytes passed)) ∙ ap (λ o. o.answer.refusal) (sym set_up_is) ∙ accepted))
       where
         by : (ok : Bool) → if_passed ok 0 bad_link ≡ 0 → ok ≡ true
@@ -173,10 +173,16 @@ unfolding after
 after_plain r at [] = at
 after_plain r at (order ∷ orders) = after_plain (behind r order) (behind_plain r at order) orders
 
-pub started_plain : (bytes : List ℕ) → (opened blank bytes).answer.refusal ≡ 0 → AtPlain (started (opened blank bytes))
-started_plain bytes accepted = subst (λ o. AtPlain (started o)) (sym (start_tables bytes accepted)) (record {
-  count = counted bytes (passed bytes accepted);
-  book = empty;
-  obeys = obeys_empty (found bytes) (right bytes accepted);
-  tables_are = refl;
-})
+-- at its first order it is the empty one; and so at any place with those tables
+module _ (bytes : List ℕ) (accepted : (opened blank bytes).answer.refusal ≡ 0) where
+  abbrev pub fresh : ℕ → Running
+  fresh place = record { links = found bytes; tables = tables (found bytes) empty; place = place }
+
+  abbrev pub fresh_plain : (place : ℕ) → AtPlain (fresh place)
+  fresh_plain place = record { count = counted bytes (passed bytes accepted); book = empty; obeys = obeys_empty (found bytes) (right bytes accepted); tables_are = refl }
+
+  pub started_fresh : started (opened blank bytes) ≡ fresh 1
+  started_fresh = ap (λ o. started o) (start_tables bytes accepted)
+
+  pub started_plain : AtPlain (started (opened blank bytes))
+  started_plain = subst (λ r. AtPlain r) (sym started_fresh) (fresh_plain 1)

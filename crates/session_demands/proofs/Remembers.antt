@@ -94,10 +94,10 @@ not_refused place order k words h e =
 -- a session at a plain book that answers a booking, and then its cancellation
 module _ (r : Running) (at : AtPlain r) (booking cancellation : List ℕ) (number : ℕ) (wish : Wish)
     (first : order_read booking ≡ Ok (orders_of.Book number wish)) (second : order_read cancellation ≡ Ok (orders_of.Cancel number)) where
-  abbrev asked : Request
+  abbrev pub asked : Request
   asked = request_of wish
 
-  line_1 : line_of r.place (answered r booking) ≡ line_at r.place (shown (orders_of.Book number wish) (plain_answer r.links at.book (book number asked)))
+  pub line_1 : line_of r.place (answered r booking) ≡ line_at r.place (shown (orders_of.Book number wish) (plain_answer r.links at.book (book number asked)))
   line_1 = ap (line_of r.place) (answered_plain r at booking) ∙ ap (λ read. line_at r.place (plain_told r.links at.book read)) first
 
   line_2 : (g : Grant) → plain_answer r.links at.book (book number asked) ≡ starts g → number_ok number ≡ true
