@@ -5,3 +5,4 @@ pub mod Cutting
 pub mod LineByLine
 pub mod Remembers
 pub mod Shams
+pub mod OneLineEach

@@ -3,11 +3,11 @@ use mathlib.Core.Path.{◌≡◌, refl, ap, ap₂, ◌∙◌}
 use mathlib.Core.Logic.{◌≢◌}
 use mathlib.Core.List.{List, [], ◌∷◌, ◌++◌, append_assoc, append-nil}
 use mathlib.Core.Bool.{Bool, true, false, not}
-use Prim.Native.Nat.{ℕ, zero, suc, ◌+◌, ◌*◌, ◌≤◌}
+use Prim.Native.Nat.{ℕ, zero, suc, ◌+◌, ◌*◌, ◌≤◌, ◌<◌}
 use native.Mathlib.Decide.{dec_lt}
 use native.Mathlib.Omega.{arith}
 use lib.Dec.{eqb}
-use lib.ListN.{length, drop, length-drop}
+use lib.ListN.{length, drop, length-drop, length-append}
 use Rattle.std.specs.Prelude.{codes, Result, Ok, Err}
 use Rattle.std.specs.Simd.{first_chunks}
 use Rattle.std.proofs.lemmas.List.{take_all, drop_all}
@@ -37,24 +37,21 @@ use Rattle.session_demands.proofs.Cutting.{output_accepted, goes_on}
 
 -- ---- a line
 
-NoEnd : List ℕ → Type 0
+abbrev pub NoEnd : List ℕ → Type 0
 NoEnd = All (λ b. b ≢ 10)
 
 no_end : (xs : List ℕ) → all (λ b. not (eqb b 10)) xs ≡ true → NoEnd xs
-unfolding NoEnd
 no_end xs e = (all_tells (λ b. not (eqb b 10)) (λ b. b ≢ 10) (λ b. differs b 10) xs).0 e
 
 both : (xs ys : List ℕ) → NoEnd xs → NoEnd ys → NoEnd (xs ++ ys)
-unfolding NoEnd
 both [] ys a b = b
 both (x ∷ xs) ys a b = (a.0, both xs ys a.1 b)
 
-decimal_no_end : (n : ℕ) → NoEnd (decimal n)
-unfolding NoEnd
+pub decimal_no_end : (n : ℕ) → NoEnd (decimal n)
 decimal_no_end n = all_map (Within 48 57) (λ b. b ≢ 10) (λ b h e. absurd (omega arith)) (decimal n) (only_digits n)
 
 numbers_no_end : (links : List ℕ) → NoEnd (numbers links)
-unfolding numbers NoEnd
+unfolding numbers
 numbers_no_end [] = tt
 numbers_no_end (l ∷ links) = both (codes " " ++ decimal l) (numbers links) (both (codes " ") (decimal l) (no_end (codes " ") refl) (decimal_no_end l)) (numbers_no_end links)
 
@@ -64,7 +61,6 @@ route_no_end start links =
     both (codes " start ") _ (no_end (codes " start ") refl) (both (decimal start.0) _ (decimal_no_end start.0) (both (codes " links") (numbers links) (no_end (codes " links") refl) (numbers_no_end links)))
 
 ended : (place : ℕ) (words : List ℕ) → NoEnd words → LineAt place ((decimal place ++ (codes " " ++ words)) ++ codes "\n")
-unfolding NoEnd
 ended place words h = record { words = words; one_line = h; placed = append_assoc (decimal place) (codes " " ++ words) (codes "\n") }
 
 module _ (place : ℕ) (links : List ℕ) where
@@ -118,6 +114,14 @@ pub orders_count : (k : ℕ) (bytes : List ℕ) → length bytes ≡ k * order_b
 orders_count k bytes h =
     ap length (orders_front k bytes (omega arith) ∙ ap (λ x. first_chunks order_bytes k bytes ++ x) (ap orders (drop_all (k * order_bytes) bytes (omega arith)) ∙ orders_none) ∙ append-nil _)
     ∙ length_chunks order_bytes k bytes
+
+-- and one more, whole or cut short
+pub orders_count_more : (k : ℕ) (bytes : List ℕ) → k * order_bytes < length bytes → length bytes ≤ k * order_bytes + order_bytes → length (orders bytes) ≡ suc k
+orders_count_more k bytes some most =
+    let last = drop (k * order_bytes) bytes in
+    let long = length-drop (k * order_bytes) bytes in
+    ap length (orders_front k bytes (omega arith) ∙ ap (λ x. first_chunks order_bytes k bytes ++ x) (orders_one last (omega arith, omega arith)))
+    ∙ omega (arith, length-append (first_chunks order_bytes k bytes) (last ∷ []), length_chunks order_bytes k bytes)
 
 first : (a : List ℕ) → AtBorder a 0 → session a ≡ codes "desk links " ++ (decimal (first_byte a) ++ codes "\n")
 unfolding session lines answer line

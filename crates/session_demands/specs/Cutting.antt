@@ -1,6 +1,6 @@
 -- A session can be cut at any order's border and gone on with, as properties of any program, from bytes to bytes.
-use Rattle.std.specs.Prelude.{◌≡◌, ◌≢◌, List, ◌++◌, ℕ, ◌+◌, ◌*◌, ◌≤◌, length, drop, codes, Ok}
-use Rattle.units.specs.Lists.{Within, All}
+use Rattle.std.specs.Prelude.{◌≡◌, ◌≢◌, List, [], ◌∷◌, ◌++◌, ℕ, ◌+◌, ◌*◌, ◌≤◌, eqb, length, drop, codes, Ok}
+use Rattle.units.specs.Lists.{if_so, Within, All}
 use Rattle.layout.specs.declared.Order.TheVariants.{Book, Cancel}
 use Rattle.layout.specs.declared.Wish.{Wish}
 use Rattle.layout.specs.Layout.{order_bytes}
@@ -46,3 +46,11 @@ pub record Remembers (program : List ℕ → List ℕ) : Type 0 where
       → AtBorder a count → order_read booking ≡ Ok (Book number wish) → order_read cancellation ≡ Ok (Cancel number)
       → program (a ++ booking) ≡ program a ++ (decimal (count + 1) ++ (codes " booked " ++ words))
       → program (a ++ (booking ++ cancellation)) ≡ program (a ++ booking) ++ (decimal (count + 2) ++ (codes " cancelled " ++ (decimal number ++ codes "\n")))
+
+-- so there is one line for the desk and one for each order
+unfoldable pub ends : List ℕ → ℕ
+ends [] = 0
+ends (b ∷ bs) = if_so (eqb b 10) 1 + ends bs
+
+abbrev pub OneLineEach : (List ℕ → List ℕ) → Type 0
+OneLineEach program = (bytes : List ℕ) → (opened blank bytes).answer.refusal ≡ 0 → ends (program bytes) ≡ 1 + length (orders (drop (first_size bytes) bytes))
