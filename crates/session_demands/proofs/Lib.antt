@@ -4,5 +4,8 @@ pub mod Examples
 pub mod Cutting
 pub mod LineByLine
 pub mod Remembers
+pub mod Places
+pub mod Begun
+pub mod Changed
 pub mod Shams
 pub mod OneLineEach

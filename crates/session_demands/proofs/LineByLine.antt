@@ -33,7 +33,7 @@ use Rattle.session.specs.Session.{answered, lines, last_piece, orders, blank, st
 use Rattle.session_demands.specs.Cutting.{AtBorder, reached, LineAt, LineByLine}
 use Rattle.session.proofs.Orders.{after_place, orders_short, orders_first, orders_front}
 use Rattle.session_demands.proofs.PlainBook.{links_counted, start_tables}
-use Rattle.session_demands.proofs.Cutting.{output_accepted, goes_on}
+use Rattle.session_demands.proofs.Cutting.{output_accepted, output_refused, goes_on}
 
 -- ---- a line
 
@@ -123,6 +123,11 @@ orders_count_more k bytes some most =
     ap length (orders_front k bytes (omega arith) ∙ ap (λ x. first_chunks order_bytes k bytes ++ x) (orders_one last (omega arith, omega arith)))
     ∙ omega (arith, length-append (first_chunks order_bytes k bytes) (last ∷ []), length_chunks order_bytes k bytes)
 
+refused : (bytes : List ℕ) → (opened blank bytes).answer.refusal ≢ 0 → session bytes ≡ codes "desk refused " ++ (decimal (opened blank bytes).answer.refusal ++ codes "\n")
+unfolding session answer line
+refused bytes e =
+    output_refused (opened blank bytes) (drop (first_size bytes) bytes) e ∙ append_assoc (codes "desk refused ") (decimal (opened blank bytes).answer.refusal) (codes "\n")
+
 first : (a : List ℕ) → AtBorder a 0 → session a ≡ codes "desk links " ++ (decimal (first_byte a) ++ codes "\n")
 unfolding session lines answer line
 first a at =
@@ -147,6 +152,7 @@ one_more a order count at h =
 
 pub line_by_line : LineByLine session
 line_by_line = record {
+  refused = refused;
   first = first;
   one_more = λ a order count at h. (line_of (count + 1) (answered (reached a) order), ordered_line (reached a).links (reached a).tables order (count + 1), one_more a order count at h);
 }

@@ -1,17 +1,17 @@
 -- Three sham programs, each refuted whatever its block: one writes nothing behind a block of orders, one counts places anew behind it, one
 -- forgets its tables there. All else they do properly.
 use mathlib.Core.Path.{◌≡◌, refl, sym, ap, ap₂, ◌∙◌, subst}
-use mathlib.Core.List.{List, [], ◌∷◌, ◌++◌, append_assoc, append-nil}
+use mathlib.Core.List.{List, [], ◌∷◌, ◌++◌, append_assoc}
 use mathlib.Core.Bool.{true, false}
 use Prim.Native.Nat.{ℕ, zero, suc, ◌+◌, ◌-◌, ◌*◌, ◌%◌, ◌≤◌}
 use native.Mathlib.Omega.{arith}
 use borrow.Author.Tests.{eq-eqb, ne_eqb}
 use lib.Dec.{eqb, lit≤}
-use lib.ListN.{length, get_or, take, drop, replicate, length-drop, length-append}
+use lib.ListN.{length, get_or, take, drop, length-drop, length-append}
 use Rattle.std.specs.Prelude.{codes, None, Ok}
 use Rattle.std.proofs.lemmas.List.{append_cancel_left, take-append-le}
 use Rattle.std.proofs.Math.Nat.{mod_self}
-use Rattle.units.specs.Lists.{member, sum, count_from, Within, All}
+use Rattle.units.specs.Lists.{member, sum, count_from}
 use Rattle.units.specs.Search.{first_from, all_from, any_below}
 use Rattle.layout.specs.declared.Wish.{Wish}
 use Rattle.layout.specs.declared.Order.TheVariants.{Book, Cancel}
@@ -21,82 +21,26 @@ use Rattle.layout.specs.Values.{request_of}
 use Rattle.path_search.specs.Paths.{reaches, lowest, fewest, route}
 use Rattle.choice.specs.Choice.{Grant}
 use Rattle.choice.specs.Earliest.{can_start, earliest}
-use Rattle.report.specs.declared.Report.TheVariants.{DeskLinks, DeskRefused}
-use Rattle.report.specs.Decimal.{read_decimal, decimal}
+use Rattle.report.specs.Decimal.{decimal}
 use Rattle.report.specs.Line.{route as route_text, answer, line}
-use Rattle.report.proofs.Decimals.{only_digits, read_back}
 use Rattle.rules.specs.Plain.{empty}
 use Rattle.histories.specs.Kinds as kinds
 use Rattle.rules.specs.Calls.{book, cancel, starts, refuse, checked, best}
 use Rattle.rules.specs.Tables.{tables}
 use Rattle.rules.specs.Desk.{answer as plain_answer}
-use Rattle.opening.specs.Opened.{link_record, links_refusal, links_in, first_size, bytes_refusal, Opened, opened}
-use Rattle.orders.specs.Ordered.{ordered, line_of}
+use Rattle.opening.specs.Opened.{link_record, links_in, first_size, Opened, opened}
+use Rattle.orders.specs.Ordered.{line_of}
 use Rattle.session.specs.Session.{Running, answered, behind, orders, blank, started, output}
 use Rattle.session_demands.specs.Examples.{session_bytes}
 use Rattle.session_demands.specs.FromPlainBook.{plain_told, line_at, shown}
-use Rattle.session_demands.specs.Cutting.{AtBorder, LineAt, LineByLine, Remembers}
-use Rattle.session_demands.proofs.PlainBook.{found, start_answer, fresh, fresh_plain, started_fresh, answered_plain}
-use Rattle.session_demands.proofs.Cutting.{front, border_more, orders_cut}
-use Rattle.session_demands.proofs.LineByLine.{ordered_line, orders_none, orders_one, orders_count}
+use Rattle.session_demands.specs.Cutting.{LineAt, LineByLine, Remembers}
+use Rattle.session_demands.proofs.PlainBook.{found, fresh, fresh_plain, started_fresh, answered_plain}
+use Rattle.session_demands.proofs.Cutting.{front, border_more}
+use Rattle.session_demands.proofs.LineByLine.{ordered_line}
 use Rattle.session_demands.proofs.Remembers.{refused_line, line_1}
-
--- ---- what lines tell
-
--- a line is not empty
-line_some : (place : ℕ) (line : List ℕ) → LineAt place line → 1 ≤ length line
-line_some place line at = omega (arith, ap length at.placed, length-append (decimal place) (codes " " ++ (at.words ++ codes "\n")))
-
--- digits end at the space
-same_digits : (xs ys us vs : List ℕ) → All (Within 48 57) xs → All (Within 48 57) ys → xs ++ (32 ∷ us) ≡ ys ++ (32 ∷ vs) → xs ≡ ys
-same_digits [] [] us vs a b e = refl
-same_digits [] (y ∷ ys) us vs a b e = absurd (let h : 32 ≡ y = ap (λ l. get_or l 0 0) e in omega (arith, b.0.0))
-same_digits (x ∷ xs) [] us vs a b e = absurd (let h : x ≡ 32 = ap (λ l. get_or l 0 0) e in omega (arith, a.0.0))
-same_digits (x ∷ xs) (y ∷ ys) us vs a b e = ap₂ ◌∷◌ (ap (λ l. get_or l 0 0) e) (same_digits xs ys us vs a.1 b.1 (ap (drop 1) e))
-
--- so a line has one place
-same_place : (p q : ℕ) (line : List ℕ) → LineAt p line → LineAt q line → p ≡ q
-same_place p q line a b =
-    sym (read_back p) ∙ ap read_decimal (same_digits (decimal p) (decimal q) _ _ (only_digits p) (only_digits q) (sym a.placed ∙ b.placed)) ∙ read_back q
-
--- ---- a session of any length: three links, then orders that cannot be read
-no_order : List ℕ
-no_order = replicate order_bytes 0
-
-one_order : Within 1 order_bytes (length no_order)
-unfolding no_order
-one_order = (lit≤ tt, lit≤ tt)
-
-many : ℕ → List ℕ
-many zero = []
-many (suc n) = no_order ++ many n
-
-start : List ℕ
-start = take 25 session_bytes
-
-begun : ℕ → List ℕ
-begun n = start ++ many n
-
-many_length : (n : ℕ) → length (many n) ≡ n * order_bytes
-unfolding many no_order
-many_length zero = refl
-many_length (suc n) = omega (arith, many_length n)
-
-start_accepted : (opened blank start).answer.refusal ≡ 0
-unfolding start bytes_refusal links_refusal link_record link_read link_from big_endian cut sum links_in count_from first_from
-start_accepted = ap (λ told. told.refusal) (start_answer start)
-
-start_whole : length start ≡ first_size start + 0 * order_bytes
-unfolding start first_size
-start_whole = refl
-
-start_alone : drop (first_size start) start ≡ []
-unfolding start first_size
-start_alone = refl
-
-begun_at : (n : ℕ) → AtBorder (begun n) n
-unfolding begun
-begun_at n = let e : 0 + n ≡ n = omega arith in subst (AtBorder (start ++ many n)) e (border_more start (many n) 0 n (record { accepted = start_accepted; border = start_whole }) (many_length n))
+use Rattle.session_demands.proofs.Places.{line_some, same_place}
+use Rattle.session_demands.proofs.Begun.{no_order, one_order, many, start, begun, start_accepted, start_whole, start_alone, begun_at, unread, many_orders, many_none}
+use Rattle.session_demands.proofs.Changed.{after_with, program_with, reached_with, place_reached, more_with, reached_more}
 
 -- ---- 1. it writes nothing behind a block
 
@@ -115,77 +59,6 @@ module _ (block : ℕ) where
   stops_refuted demand =
       let x = demand.one_more (begun block) no_order block (begun_at block) one_order in
       omega (arith, ap length (sym nothing_more ∙ x.2), length-append (stops_after block (begun block)) x.0, line_some (block + 1) x.0 x.1)
-
--- ---- a program that shows other places, or changes the session behind an order
-
-module _ (shows : ℕ → ℕ) (keeps : Running → Running) where
-  lines_with : Running → List (List ℕ) → List ℕ
-  lines_with r [] = []
-  lines_with r (order ∷ orders) = line_of (shows r.place) (answered r order) ++ lines_with (keeps (behind r order)) orders
-
-  after_with : Running → List (List ℕ) → Running
-  after_with r [] = r
-  after_with r (order ∷ orders) = after_with (keeps (behind r order)) orders
-
-  output_with : Opened → List ℕ → List ℕ
-  output_with o bytes = if_passed (eqb o.answer.refusal 0) (line 0 (DeskLinks (length o.answer.links)) [] ++ lines_with (started o) (orders bytes)) (line 0 (DeskRefused o.answer.refusal) [])
-
-  program_with : List ℕ → List ℕ
-  program_with bytes = output_with (opened blank bytes) (drop (first_size bytes) bytes)
-
-  reached_with : List ℕ → Running
-  reached_with bytes = after_with (started (opened blank bytes)) (orders (drop (first_size bytes) bytes))
-
-  lines_append_with : (r : Running) (xs ys : List (List ℕ)) → lines_with r (xs ++ ys) ≡ lines_with r xs ++ lines_with (after_with r xs) ys
-  unfolding lines_with after_with
-  lines_append_with r [] ys = refl
-  lines_append_with r (x ∷ xs) ys =
-      ap (λ rest. line_of (shows r.place) (answered r x) ++ rest) (lines_append_with (keeps (behind r x)) xs ys) ∙ sym (append_assoc (line_of (shows r.place) (answered r x)) _ _)
-
-  after_append_with : (r : Running) (xs ys : List (List ℕ)) → after_with r (xs ++ ys) ≡ after_with (after_with r xs) ys
-  unfolding after_with
-  after_append_with r [] ys = refl
-  after_append_with r (x ∷ xs) ys = after_append_with (keeps (behind r x)) xs ys
-
-  after_place_with : ((r : Running) → (keeps r).place ≡ r.place) → (r : Running) (xs : List (List ℕ)) → (after_with r xs).place ≡ r.place + length xs
-  unfolding after_with
-  after_place_with same r [] = omega arith
-  after_place_with same r (x ∷ xs) = omega (arith, after_place_with same (keeps (behind r x)) xs, same (behind r x))
-
-  output_accepted_with : (o : Opened) (bytes : List ℕ) → o.answer.refusal ≡ 0 → output_with o bytes ≡ line 0 (DeskLinks (length o.answer.links)) [] ++ lines_with (started o) (orders bytes)
-  unfolding output_with
-  output_accepted_with o bytes e = rw (eq-eqb o.answer.refusal 0 e) refl
-
-  -- one order more
-  module _ (a order : List ℕ) (count : ℕ) (at : AtBorder a count) (h : Within 1 order_bytes (length order)) where
-    orders_then : orders (drop (first_size a) a ++ order) ≡ orders (drop (first_size a) a) ++ (order ∷ [])
-    orders_then = orders_cut (drop (first_size a) a) order count (rw length-drop (omega (arith, at.border))) ∙ ap (λ x. orders (drop (first_size a) a) ++ x) (orders_one order h)
-
-    more_with : program_with (a ++ order) ≡ program_with a ++ line_of (shows (reached_with a).place) (answered (reached_with a) order)
-    unfolding program_with reached_with lines_with
-    more_with =
-        let o = opened blank a in
-        let rest = drop (first_size a) a in
-        let first = line 0 (DeskLinks (length o.answer.links)) [] in
-        let one = line_of (shows (reached_with a).place) (answered (reached_with a) order) in
-        front output_with a order (omega (arith, at.border))
-        ∙ output_accepted_with o (rest ++ order) at.accepted
-        ∙ ap (λ x. first ++ x) (ap (lines_with (started o)) orders_then ∙ lines_append_with (started o) (orders rest) (order ∷ []) ∙ ap (λ x. lines_with (started o) (orders rest) ++ x) (append-nil one))
-        ∙ sym (append_assoc first (lines_with (started o) (orders rest)) one)
-        ∙ sym (ap (λ x. x ++ one) (output_accepted_with o rest at.accepted))
-
-    reached_more : reached_with (a ++ order) ≡ keeps (behind (reached_with a) order)
-    unfolding reached_with after_with
-    reached_more =
-        front (λ o bs. after_with (started o) (orders bs)) a order (omega (arith, at.border))
-        ∙ ap (after_with (started (opened blank a))) orders_then
-        ∙ after_append_with (started (opened blank a)) (orders (drop (first_size a) a)) (order ∷ [])
-
-  place_reached : ((r : Running) → (keeps r).place ≡ r.place) → (a : List ℕ) (count : ℕ) → AtBorder a count → (reached_with a).place ≡ count + 1
-  unfolding reached_with
-  place_reached same a count at =
-      after_place_with same (started (opened blank a)) (orders (drop (first_size a) a))
-      ∙ omega (arith, orders_count count (drop (first_size a) a) (rw length-drop (omega (arith, at.border))))
 
 -- ---- 2. it counts places anew behind each block
 
@@ -220,19 +93,6 @@ forgotten block r = record { links = r.links; tables = if_passed (eqb r.place (b
 
 pub forgets : ℕ → List ℕ → List ℕ
 forgets block = program_with (λ place. place) (forgotten block)
-
--- such an order changes nothing
-unread : (r : Running) → (answered r no_order).tables ≡ r.tables
-unfolding no_order ordered order_read order_from big_endian cut sum
-unread r = refl
-
-many_orders : (n : ℕ) → orders (many (suc n)) ≡ no_order ∷ orders (many n)
-unfolding many no_order
-many_orders n = orders_cut no_order (many n) 1 refl ∙ ap (λ xs. xs ++ orders (many n)) (orders_one no_order one_order)
-
-many_none : orders (many zero) ≡ []
-unfolding many
-many_none = orders_none
 
 module _ (block : ℕ) where
   kept : (n : ℕ) (r : Running) → r.place + n ≤ block → after_with (λ place. place) (forgotten block) r (orders (many n)) ≡ record { links = r.links; tables = r.tables; place = r.place + n }

@@ -28,14 +28,16 @@ pub record CutAnywhere (program : List ℕ → List ℕ) : Type 0 where
   pub goes_on : (a b : List ℕ) (count : ℕ) → AtBorder a count → program (a ++ b) ≡ program a ++ lines (reached a) (orders b)
   pub stops : (a b : List ℕ) → Refused a → program (a ++ b) ≡ program a
 
--- The same without tables, figures and searches. A line begins with its place; nothing in it ends a line but its last byte.
+-- What follows speaks of no figure and no search. A line begins with its place, and nothing in it ends a line but its last byte.
 pub record LineAt (place : ℕ) (line : List ℕ) : Type 0 where
   pub words : List ℕ
   pub one_line : All (λ b. b ≢ 10) words
   pub placed : line ≡ decimal place ++ (codes " " ++ (words ++ codes "\n"))
 
--- 'one line for each order': each order, one cut short too, adds one line with the next place, however many came before it
+-- 'On refusal it writes `desk refused N` and stops. Otherwise `desk links N`, then one line for each order': each order, one cut short too,
+-- adds one line with the next place, however many came before it
 pub record LineByLine (program : List ℕ → List ℕ) : Type 0 where
+  pub refused : (bytes : List ℕ) → (opened blank bytes).answer.refusal ≢ 0 → program bytes ≡ codes "desk refused " ++ (decimal (opened blank bytes).answer.refusal ++ codes "\n")
   pub first : (a : List ℕ) → AtBorder a 0 → program a ≡ codes "desk links " ++ (decimal (first_byte a) ++ codes "\n")
   pub one_more : (a order : List ℕ) (count : ℕ) → AtBorder a count → Within 1 order_bytes (length order)
       → (line : List ℕ) × LineAt (count + 1) line × (program (a ++ order) ≡ program a ++ line)
