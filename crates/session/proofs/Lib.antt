@@ -5,7 +5,3 @@ pub mod Start
 pub mod Fronts
 pub mod Runs
 pub mod Steps
-pub mod PlainBook
-pub mod Examples
-pub mod Cutting
-pub mod LineByLine

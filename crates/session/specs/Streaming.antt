@@ -5,7 +5,8 @@ use Rattle.std.specs.Io.KnownBytes.{Appends, Consumes}
 use Rattle.layout.specs.Layout.{order_bytes}
 use Rattle.lent.specs.Lent.{tables_of}
 use Rattle.lent.specs.declared.Desk.{Desk}
-use Rattle.session.specs.Session.{Running, lines, orders, first_size}
+use Rattle.opening.specs.Opened.{first_size}
+use Rattle.session.specs.Session.{Running, lines, orders}
 use Rattle.session.specs.declared.writer.Lines.{Lines}
 use Rattle.session.specs.declared.reader.Block.{Block}
 

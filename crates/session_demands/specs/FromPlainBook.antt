@@ -14,10 +14,10 @@ use Rattle.rules.specs.Calls.{Answer, values, next}
 use Rattle.rules.specs.Tables.{links_ok, tables}
 use Rattle.rules.specs.Desk.{answer_with}
 use Rattle.rules.specs.Sound.{Obeys}
-use Rattle.opening.specs.Opened.{first_byte, links_in, bytes_refusal, Told}
+use Rattle.opening.specs.Opened.{first_byte, first_size, links_in, bytes_refusal, Told}
 use Rattle.orders.specs.declared.Answered.{Answered}
 use Rattle.orders.specs.Ordered.{call_of, reported, path_shown, told}
-use Rattle.session.specs.Session.{lines, orders, first_size}
+use Rattle.session.specs.Session.{lines, orders}
 
 -- what an order's call is answered from the links and the plain book
 abbrev pub plain_answer : List Link → Plain → Order → Answer

@@ -10,11 +10,11 @@ use Rattle.report.specs.Decimal.{digits, decimal}
 use Rattle.report.specs.Line.{numbers, route as route_text, answer, line}
 use Rattle.histories.specs.Kinds as kinds
 use Rattle.rules.specs.Calls.{checked, best}
-use Rattle.opening.specs.Opened.{link_record, links_refusal, links_in, bytes_refusal}
-use Rattle.session.specs.Session.{orders, first_size, session}
-use Rattle.session.specs.FromPlainBook.{plain_lines, plain_session}
-use Rattle.session.specs.Examples.{session_bytes, PrintsSession}
-use Rattle.session.proofs.PlainBook.{session_plain}
+use Rattle.opening.specs.Opened.{first_size, link_record, links_refusal, links_in, bytes_refusal}
+use Rattle.session.specs.Session.{orders, session}
+use Rattle.session_demands.specs.FromPlainBook.{plain_lines, plain_session}
+use Rattle.session_demands.specs.Examples.{session_bytes, PrintsSession}
+use Rattle.session_demands.proofs.PlainBook.{session_plain}
 
 pub session_file : PrintsSession session
 unfolding plain_session plain_lines orders first_size link_record links_refusal links_in bytes_refusal count_from big_endian cut sum clear order_from order_read link_from link_read kinds.answer checked best select member earliest can_start reaches lowest fewest route first_from all_from any_below digits decimal numbers route_text answer line

@@ -3,11 +3,11 @@ use mathlib.Core.Path.{◌≡◌, refl, ap, ap₂, ◌∙◌}
 use mathlib.Core.Logic.{◌≢◌}
 use mathlib.Core.List.{List, [], ◌∷◌, ◌++◌, append_assoc, append-nil}
 use mathlib.Core.Bool.{Bool, true, false, not}
-use Prim.Native.Nat.{ℕ, zero, suc, ◌+◌, ◌*◌, ◌≤◌}
+use Prim.Native.Nat.{ℕ, zero, suc, ◌+◌, ◌*◌, ◌≤◌, ◌<◌}
 use native.Mathlib.Decide.{dec_lt}
 use native.Mathlib.Omega.{arith}
 use lib.Dec.{eqb}
-use lib.ListN.{length, drop, length-drop}
+use lib.ListN.{length, drop, length-drop, length-append}
 use Rattle.std.specs.Prelude.{codes, Result, Ok, Err}
 use Rattle.std.specs.Simd.{first_chunks}
 use Rattle.std.proofs.lemmas.List.{take_all, drop_all}
@@ -27,34 +27,31 @@ use Rattle.report.specs.Line.{numbers, route, answer, line}
 use Rattle.report.proofs.Decimals.{only_digits}
 use Rattle.rules.specs.Calls.{Values}
 use Rattle.rules.specs.Tables.{Tables}
-use Rattle.opening.specs.Opened.{first_byte, opened}
+use Rattle.opening.specs.Opened.{first_byte, first_size, opened}
 use Rattle.orders.specs.Ordered.{answered as answered_order, by_reading, ordered, accepted, line_of}
-use Rattle.session.specs.Session.{answered, lines, last_piece, orders, blank, first_size, started, session}
-use Rattle.session.specs.Cutting.{AtBorder, reached, LineAt, LineByLine}
+use Rattle.session.specs.Session.{answered, lines, last_piece, orders, blank, started, session}
+use Rattle.session_demands.specs.Cutting.{AtBorder, reached, LineAt, LineByLine}
 use Rattle.session.proofs.Orders.{after_place, orders_short, orders_first, orders_front}
-use Rattle.session.proofs.PlainBook.{links_counted, start_tables}
-use Rattle.session.proofs.Cutting.{StartsAlone, output_accepted, goes_on}
+use Rattle.session_demands.proofs.PlainBook.{links_counted, start_tables}
+use Rattle.session_demands.proofs.Cutting.{output_accepted, output_refused, goes_on}
 
 -- ---- a line
 
-NoEnd : List ℕ → Type 0
+abbrev pub NoEnd : List ℕ → Type 0
 NoEnd = All (λ b. b ≢ 10)
 
 no_end : (xs : List ℕ) → all (λ b. not (eqb b 10)) xs ≡ true → NoEnd xs
-unfolding NoEnd
 no_end xs e = (all_tells (λ b. not (eqb b 10)) (λ b. b ≢ 10) (λ b. differs b 10) xs).0 e
 
 both : (xs ys : List ℕ) → NoEnd xs → NoEnd ys → NoEnd (xs ++ ys)
-unfolding NoEnd
 both [] ys a b = b
 both (x ∷ xs) ys a b = (a.0, both xs ys a.1 b)
 
-decimal_no_end : (n : ℕ) → NoEnd (decimal n)
-unfolding NoEnd
+pub decimal_no_end : (n : ℕ) → NoEnd (decimal n)
 decimal_no_end n = all_map (Within 48 57) (λ b. b ≢ 10) (λ b h e. absurd (omega arith)) (decimal n) (only_digits n)
 
 numbers_no_end : (links : List ℕ) → NoEnd (numbers links)
-unfolding numbers NoEnd
+unfolding numbers
 numbers_no_end [] = tt
 numbers_no_end (l ∷ links) = both (codes " " ++ decimal l) (numbers links) (both (codes " ") (decimal l) (no_end (codes " ") refl) (decimal_no_end l)) (numbers_no_end links)
 
@@ -64,7 +61,6 @@ route_no_end start links =
     both (codes " start ") _ (no_end (codes " start ") refl) (both (decimal start.0) _ (decimal_no_end start.0) (both (codes " links") (numbers links) (no_end (codes " links") refl) (numbers_no_end links)))
 
 ended : (place : ℕ) (words : List ℕ) → NoEnd words → LineAt place ((decimal place ++ (codes " " ++ words)) ++ codes "\n")
-unfolding NoEnd
 ended place words h = record { words = words; one_line = h; placed = append_assoc (decimal place) (codes " " ++ words) (codes "\n") }
 
 module _ (place : ℕ) (links : List ℕ) where
@@ -119,31 +115,44 @@ orders_count k bytes h =
     ap length (orders_front k bytes (omega arith) ∙ ap (λ x. first_chunks order_bytes k bytes ++ x) (ap orders (drop_all (k * order_bytes) bytes (omega arith)) ∙ orders_none) ∙ append-nil _)
     ∙ length_chunks order_bytes k bytes
 
-module _ (alone : StartsAlone) where
-  first : (a : List ℕ) → AtBorder a 0 → session a ≡ codes "desk links " ++ (decimal (first_byte a) ++ codes "\n")
-  unfolding session lines answer line
-  first a at =
-      let rest = drop (first_size a) a in
-      let s = start_tables a at.accepted in
-      output_accepted (opened blank a) rest at.accepted
-      ∙ ap₂ (λ n os. line 0 (reports.DeskLinks n) [] ++ lines (started (opened blank a)) os) (ap (λ o. length o.answer.links) s ∙ links_counted a) (ap orders (drop_all (first_size a) a (omega (arith, at.border))) ∙ orders_none)
-      ∙ append-nil (line 0 (reports.DeskLinks (first_byte a)) [])
-      ∙ append_assoc (codes "desk links ") (decimal (first_byte a)) (codes "\n")
+-- and one more, whole or cut short
+pub orders_count_more : (k : ℕ) (bytes : List ℕ) → k * order_bytes < length bytes → length bytes ≤ k * order_bytes + order_bytes → length (orders bytes) ≡ suc k
+orders_count_more k bytes some most =
+    let last = drop (k * order_bytes) bytes in
+    let long = length-drop (k * order_bytes) bytes in
+    ap length (orders_front k bytes (omega arith) ∙ ap (λ x. first_chunks order_bytes k bytes ++ x) (orders_one last (omega arith, omega arith)))
+    ∙ omega (arith, length-append (first_chunks order_bytes k bytes) (last ∷ []), length_chunks order_bytes k bytes)
 
-  -- the place of the next order
-  next_place : (a : List ℕ) (count : ℕ) → AtBorder a count → (reached a).place ≡ count + 1
-  next_place a count at =
-      after_place (started (opened blank a)) (orders (drop (first_size a) a))
-      ∙ omega (arith, orders_count count (drop (first_size a) a) (rw length-drop (omega (arith, at.border))))
+refused : (bytes : List ℕ) → (opened blank bytes).answer.refusal ≢ 0 → session bytes ≡ codes "desk refused " ++ (decimal (opened blank bytes).answer.refusal ++ codes "\n")
+unfolding session answer line
+refused bytes e =
+    output_refused (opened blank bytes) (drop (first_size bytes) bytes) e ∙ append_assoc (codes "desk refused ") (decimal (opened blank bytes).answer.refusal) (codes "\n")
 
-  one_more : (a order : List ℕ) (count : ℕ) → AtBorder a count → Within 1 order_bytes (length order) → session (a ++ order) ≡ session a ++ line_of (count + 1) (answered (reached a) order)
-  unfolding lines
-  one_more a order count at h =
-      goes_on alone a order count at
-      ∙ ap (λ x. session a ++ x) (ap (lines (reached a)) (orders_one order h) ∙ append-nil _ ∙ ap (λ n. line_of n (answered (reached a) order)) (next_place a count at))
+first : (a : List ℕ) → AtBorder a 0 → session a ≡ codes "desk links " ++ (decimal (first_byte a) ++ codes "\n")
+unfolding session lines answer line
+first a at =
+    let rest = drop (first_size a) a in
+    let s = start_tables a at.accepted in
+    output_accepted (opened blank a) rest at.accepted
+    ∙ ap₂ (λ n os. line 0 (reports.DeskLinks n) [] ++ lines (started (opened blank a)) os) (ap (λ o. length o.answer.links) s ∙ links_counted a) (ap orders (drop_all (first_size a) a (omega (arith, at.border))) ∙ orders_none)
+    ∙ append-nil (line 0 (reports.DeskLinks (first_byte a)) [])
+    ∙ append_assoc (codes "desk links ") (decimal (first_byte a)) (codes "\n")
 
-  pub line_by_line : LineByLine session
-  line_by_line = record {
-    first = first;
-    one_more = λ a order count at h. (line_of (count + 1) (answered (reached a) order), ordered_line (reached a).links (reached a).tables order (count + 1), one_more a order count at h);
-  }
+-- the place of the next order
+pub next_place : (a : List ℕ) (count : ℕ) → AtBorder a count → (reached a).place ≡ count + 1
+next_place a count at =
+    after_place (started (opened blank a)) (orders (drop (first_size a) a))
+    ∙ omega (arith, orders_count count (drop (first_size a) a) (rw length-drop (omega (arith, at.border))))
+
+pub one_more : (a order : List ℕ) (count : ℕ) → AtBorder a count → Within 1 order_bytes (length order) → session (a ++ order) ≡ session a ++ line_of (count + 1) (answered (reached a) order)
+unfolding lines
+one_more a order count at h =
+    goes_on a order count at
+    ∙ ap (λ x. session a ++ x) (ap (lines (reached a)) (orders_one order h) ∙ append-nil _ ∙ ap (λ n. line_of n (answered (reached a) order)) (next_place a count at))
+
+pub line_by_line : LineByLine session
+line_by_line = record {
+  refused = refused;
+  first = first;
+  one_more = λ a order count at h. (line_of (count + 1) (answered (reached a) order), ordered_line (reached a).links (reached a).tables order (count + 1), one_more a order count at h);
+}

@@ -1,5 +1,5 @@
 -- The output of a session is what the plain book answers: each order leaves the tables of the book's next state.
-use mathlib.Core.Path.{◌≡◌, refl, sym, ap, ap₂, ◌∙◌}
+use mathlib.Core.Path.{◌≡◌, refl, sym, ap, ap₂, ◌∙◌, subst}
 use mathlib.Core.List.{List, [], ◌∷◌, ◌++◌}
 use mathlib.Core.Bool.{Bool, true, false}
 use Prim.Native.Nat.{ℕ, zero, suc, ◌+◌, ◌*◌}
@@ -27,18 +27,18 @@ use Rattle.rules.specs.Desk.{outcome}
 use Rattle.rules.specs.Sound.{LinkRight, Obeys}
 use Rattle.rules.proofs.Tests.{links_tell, sized_tells}
 use Rattle.rules.proofs.Step.{set_up_accepted, set_up_leaves, obeys_empty, answers_plain, leaves_plain, stays_obeyed}
-use Rattle.opening.specs.Opened.{first_byte, links_in, bytes_refusal, by_set_up, opened}
-use Rattle.orders.specs.Ordered.{Ordered, call_of, answered_by, answered, by_reading, ordered, line_of}
-use Rattle.session.specs.Session.{lines, orders, blank, first_size, output, session}
-use Rattle.session.specs.FromPlainBook.{plain_told, plain_next, line_at, plain_lines, plain_start, plain_output, plain_session, FromPlainBook, LinesFromPlainBook}
+use Rattle.opening.specs.Opened.{first_byte, first_size, links_in, bytes_refusal, by_set_up, opened}
+use Rattle.orders.specs.Ordered.{Ordered, call_of, answered_by, answered as answered_order, by_reading, ordered, line_of}
+use Rattle.session.specs.Session.{Running, answered, behind, lines, after, started, orders, blank, output, session}
+use Rattle.session_demands.specs.FromPlainBook.{plain_told, plain_next, line_at, plain_lines, plain_start, plain_output, plain_session, FromPlainBook, LinesFromPlainBook}
 
 module _ (links : List Link) (count : Within 1 most_links (length links)) where
-  next_obeys : (p : Plain) → Obeys links p → (read : Result Order Refusal) → Obeys links (plain_next links p read)
+  pub next_obeys : (p : Plain) → Obeys links p → (read : Result Order Refusal) → Obeys links (plain_next links p read)
   next_obeys p o (Ok order) = stays_obeyed links p o (call_of order)
   next_obeys p o (Err refusal) = o
 
   read_plain : (p : Plain) → Obeys links p → (read : Result Order Refusal) → by_reading links (tables links p) read ≡ record { answer = plain_told links p read; tables = tables links (plain_next links p read) }
-  unfolding answered
+  unfolding answered_order
   read_plain p o (Ok order) = ap₂ (λ a t. answered_by order (record { answer = a; tables = t })) (answers_plain links p o count (call_of order)) (leaves_plain links p o count (call_of order))
   read_plain p o (Err refusal) = refl
 
@@ -78,7 +78,7 @@ pub links_counted : (bytes : List ℕ) → length (links_in bytes (first_byte by
 unfolding links_in
 links_counted bytes = rw (length-map, length_count) refl
 
-counted : (bytes : List ℕ) → bytes_refusal bytes ≡ 0 → Within 1 most_links (length (links_in bytes (first_byte bytes)))
+pub counted : (bytes : List ℕ) → bytes_refusal bytes ≡ 0 → Within 1 most_links (length (links_in bytes (first_byte bytes)))
 unfolding bytes_refusal
 counted bytes e = rw links_counted (by _ (eqb (length bytes) 0) (within 1 most_links (first_byte bytes)) refl e)
   where
@@ -88,10 +88,10 @@ counted bytes e = rw links_counted (by _ (eqb (length bytes) 0) (within 1 most_l
     by n false false f e = absurd (omega arith)
 
 module _ (bytes : List ℕ) where
-  abbrev found : List Link
+  abbrev pub found : List Link
   found = links_in bytes (first_byte bytes)
 
-  start_answer : (opened blank bytes).answer ≡ plain_start bytes
+  pub start_answer : (opened blank bytes).answer ≡ plain_start bytes
   unfolding opened
   start_answer = by (eqb (bytes_refusal bytes) 0) refl
     where
@@ -103,7 +103,7 @@ module _ (bytes : List ℕ) where
 
   -- an accepted start leaves the tables of the empty plain book
   module _ (accepted : (opened blank bytes).answer.refusal ≡ 0) where
-    passed : bytes_refusal bytes ≡ 0
+    pub passed : bytes_refusal bytes ≡ 0
     unfolding opened
     passed = by (eqb (bytes_refusal bytes) 0) refl accepted
       where
@@ -116,7 +116,7 @@ module _ (bytes : List ℕ) where
     unfolding opened
     set_up_is = rw passed refl
 
-    right : All LinkRight found
+    pub right : All LinkRight found
     right = (links_tell found).0 (by (links_ok found) (sym (set_up_number found (counted bytes passed)) ∙ ap (λ o. o.answer.refusal) (sym set_up_is) ∙ accepted))
       where
         by : (ok : Bool) → if_passed ok 0 bad_link ≡ 0 → ok ≡ true
@@ -144,3 +144,45 @@ session_plain bytes = by (eqb (opened blank bytes).answer.refusal 0) refl
         ∙ ap (λ x. line 0 (DeskLinks (length (found bytes))) [] ++ x) (lines_from (found bytes) (counted bytes (passed bytes a)) empty 1 (orders rest) (obeys_empty (found bytes) (right bytes a)))
         ∙ ap (λ t. plain_output t rest) (sym (ap (λ o. o.answer) s) ∙ start_answer bytes)
     by false e = rw e (sym (ap (λ t. plain_output t rest) (sym (start_answer bytes)) ∙ rw e refl))
+
+-- ---- any moment of a session
+
+-- the session's tables are those of a plain book that obeys the rules
+pub record AtPlain (r : Running) : Type 0 where
+  pub count : Within 1 most_links (length r.links)
+  pub book : Plain
+  pub obeys : Obeys r.links book
+  pub tables_are : r.tables ≡ tables r.links book
+
+-- an order is answered from that book, and leaves the tables of its next state
+pub answered_plain : (r : Running) (at : AtPlain r) (order : List ℕ)
+    → answered r order ≡ record { answer = plain_told r.links at.book (order_read order); tables = tables r.links (plain_next r.links at.book (order_read order)) }
+unfolding ordered
+answered_plain r at order = ap (λ t. by_reading r.links t (order_read order)) at.tables_are ∙ read_plain r.links at.count at.book at.obeys (order_read order)
+
+abbrev pub behind_plain : (r : Running) → AtPlain r → (order : List ℕ) → AtPlain (behind r order)
+behind_plain r at order = record {
+  count = at.count;
+  book = plain_next r.links at.book (order_read order);
+  obeys = next_obeys r.links at.count at.book at.obeys (order_read order);
+  tables_are = ap (λ o. o.tables) (answered_plain r at order);
+}
+
+pub after_plain : (r : Running) → AtPlain r → (orders : List (List ℕ)) → AtPlain (after r orders)
+unfolding after
+after_plain r at [] = at
+after_plain r at (order ∷ orders) = after_plain (behind r order) (behind_plain r at order) orders
+
+-- at its first order it is the empty one; and so at any place with those tables
+module _ (bytes : List ℕ) (accepted : (opened blank bytes).answer.refusal ≡ 0) where
+  abbrev pub fresh : ℕ → Running
+  fresh place = record { links = found bytes; tables = tables (found bytes) empty; place = place }
+
+  abbrev pub fresh_plain : (place : ℕ) → AtPlain (fresh place)
+  fresh_plain place = record { count = counted bytes (passed bytes accepted); book = empty; obeys = obeys_empty (found bytes) (right bytes accepted); tables_are = refl }
+
+  pub started_fresh : started (opened blank bytes) ≡ fresh 1
+  started_fresh = ap (λ o. started o) (start_tables bytes accepted)
+
+  pub started_plain : AtPlain (started (opened blank bytes))
+  started_plain = subst (λ r. AtPlain r) (sym started_fresh) (fresh_plain 1)

@@ -1,0 +1,3 @@
+pub mod FromPlainBook
+pub mod Examples
+pub mod Cutting
