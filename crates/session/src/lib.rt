@@ -6,6 +6,8 @@
 ghost use Rattle.std.specs.Prelude.{◌≡◌, ◌+◌, ◌/◌, ◌≤◌, ◌<◌, ◌^◌, [], ◌∷◌, ◌++◌, true, length, IfSome, IfOk, OnOk, OnErr};
 ghost use Rattle.std.specs.Io.KnownBytes.{Appends};
 ghost use Rattle.layout.specs.Layout.{order_bytes};
+ghost use Rattle.rules.specs.Tables.{Fine};
+ghost use Rattle.lent.specs.Lent.{tables_of};
 ghost use Rattle.orders.specs.Ordered.{line_of};
 ghost use Rattle.report.specs.Line.{line};
 ghost use Rattle.opening.specs.Opened.{desk_report};
@@ -31,8 +33,10 @@ const MOST_TURNS: u64 = 1 << 51;
 // Runs one order, whose line is written behind the others.
 #[tactic(auto, using(crate::proofs::Fronts::front_more))]
 fn run_one<W: Write>(output: &mut W, lines: &mut Lines, desk: &mut Desk<'_>, order: &[u8]) -> io::Result<()>
+    requires fine { Fine desk.old.links.now (tables_of desk.old) }
     requires within { lines.old.used ≤ length lines.old.bytes }
     requires counted { lines.old.place + 1 < 2 ^ 64 }
+    ensures fine { Fine desk.new.links.now (tables_of desk.new) }
     ensures within { OnOk result (lines.new.used ≤ length lines.new.bytes) }
     ensures runs { OnOk result (running desk.new lines.new ≡ behind (running desk.old lines.old) order.now) }
     ensures moves { OnOk result (Moves (W.contents output.old) (W.contents output.new)
@@ -53,8 +57,10 @@ fn run_orders<W: Write>(
     desk: &mut Desk<'_>,
     orders: &[[u8; ORDER_BYTES]],
 ) -> io::Result<()>
+    requires fine { Fine desk.old.links.now (tables_of desk.old) }
     requires within { lines.old.used ≤ length lines.old.bytes }
     requires counted { lines.old.place + length orders.now < 2 ^ 64 }
+    ensures fine { Fine desk.new.links.now (tables_of desk.new) }
     ensures within { OnOk result (lines.new.used ≤ length lines.new.bytes) }
     ensures runs { OnOk result (running desk.new lines.new ≡ after (running desk.old lines.old) orders.now) }
     ensures counted { OnOk result (lines.new.place ≡ lines.old.place + length orders.now) }
@@ -77,8 +83,10 @@ fn answer_whole<W: Write>(
     desk: &mut Desk<'_>,
     bytes: &[u8],
 ) -> io::Result<()>
+    requires fine { Fine desk.old.links.now (tables_of desk.old) }
     requires none { lines.old.used ≡ 0 }
     requires counted { lines.old.place + length bytes.now / order_bytes < 2 ^ 64 }
+    ensures fine { Fine desk.new.links.now (tables_of desk.new) }
     ensures none { OnOk result (lines.new.used ≡ 0) }
     ensures runs { OnOk result (running desk.new lines.new ≡ after (running desk.old lines.old) (whole_orders bytes.now)) }
     ensures counted { OnOk result (lines.new.place ≡ lines.old.place + length bytes.now / order_bytes) }
@@ -97,8 +105,10 @@ fn answer_last<W: Write>(
     desk: &mut Desk<'_>,
     piece: &[u8],
 ) -> io::Result<()>
+    requires fine { Fine desk.old.links.now (tables_of desk.old) }
     requires none { lines.old.used ≡ 0 }
     requires counted { lines.old.place + 1 < 2 ^ 64 }
+    ensures fine { Fine desk.new.links.now (tables_of desk.new) }
     ensures written { OnOk result (Appends (W.contents output.old) (W.contents output.new) (lines_of (running desk.old lines.old) (last_piece piece.now))) }
     ensures front { OnErr result (AppendsFront (W.contents output.old) (W.contents output.new) (lines_of (running desk.old lines.old) (last_piece piece.now))) }
 {
@@ -118,9 +128,11 @@ fn answer_some<R: Read, W: Write>(
     lines: &mut Lines,
     desk: &mut Desk<'_>,
 ) -> io::Result<bool>
+    requires fine { Fine desk.old.links.now (tables_of desk.old) }
     requires kept { block.old.kept < order_bytes }
     requires none { lines.old.used ≡ 0 }
     requires counted { lines.old.place + most_orders < 2 ^ 64 }
+    ensures fine { Fine desk.new.links.now (tables_of desk.new) }
     ensures kept { OnOk result (block.new.kept < order_bytes) }
     ensures none { IfOk result (λ more. more ≡ true → lines.new.used ≡ 0) }
     ensures counted { IfOk result (λ more. more ≡ true → lines.new.place ≤ lines.old.place + most_orders) }
@@ -146,6 +158,7 @@ fn run_all<R: Read, W: Write>(
     output: &mut W,
     desk: &mut Desk<'_>,
 ) -> io::Result<()>
+    requires fine { Fine desk.old.links.now (tables_of desk.old) }
     ensures whole { OnOk result (IfSome (R.remaining input.old) (λ bytes. Appends (W.contents output.old) (W.contents output.new) (lines_of (at_place desk.old 1) (orders bytes)))) }
     ensures front { OnErr result (IfSome (R.remaining input.old) (λ bytes. AppendsFront (W.contents output.old) (W.contents output.new) (lines_of (at_place desk.old 1) (orders bytes)))) }
 {

@@ -10,7 +10,7 @@ pub returns-in_err-answer_some-clause-front : goal.returns-in_err-answer_some-cl
 returns-in_err-answer_some-clause-front g c =
     let a = c.args in
     let l = c.loop in
-    let (short, none, place, goes) = l.invariant in
+    let (fine, short, none, place, goes) = l.invariant in
     let all : List ℕ → List ℕ = λ bytes. lines (at_place a.desk.now 1) (orders bytes) in
     let fails : IfSome (g.R.Read.remaining a.input.now) (λ bytes. AppendsFront (g.W.Write.contents a.output.now) (g.W.Write.contents c.answer_some.new.output) (all bytes)) =
         goes_fails (g.R.Read.remaining a.input.now) (g.R.Read.remaining l.input) (g.W.Write.contents a.output.now) (g.W.Write.contents l.output) all (due (running l.desk l.lines) (kept l.block)) goes (g.W.Write.contents c.answer_some.new.output) c.in_err-answer_some.ensures.front in
@@ -20,13 +20,14 @@ pub loop-preserved : goal.loop-preserved
 loop-preserved g c =
     let a = c.args in
     let l = c.loop in
-    let (short, none, place, goes) = l.invariant in
+    let (fine, short, none, place, goes) = l.invariant in
     let k = c.in_ok-answer_some.ensures in
     let all : List ℕ → List ℕ = λ bytes. lines (at_place a.desk.now 1) (orders bytes) in
     let more : c.in_ok-answer_some.field-0 ≡ true = search rules in
     let still : List ℕ → List ℕ = due (running c.answer_some.new.desk c.answer_some.new.lines) (kept c.answer_some.new.block) in
     let step = subst (λ m. Goes (g.R.Read.remaining l.input) (g.R.Read.remaining c.answer_some.new.input) (g.W.Write.contents l.output) (g.W.Write.contents c.answer_some.new.output) (due (running l.desk l.lines) (kept l.block)) (due_if m still)) more k.goes in
     (
+      k.fine,
       k.kept,
       search rules,
       search rules,
@@ -37,5 +38,5 @@ pub returns-clause-front : goal.returns-clause-front
 returns-clause-front g c =
     let a = c.args in
     let l = c.loop in
-    let (short, none, place, goes) = l.invariant in
+    let (fine, short, none, place, goes) = l.invariant in
     goes_stops (g.R.Read.remaining a.input.now) (g.R.Read.remaining l.input) (g.W.Write.contents a.output.now) (g.W.Write.contents l.output) (λ bytes. lines (at_place a.desk.now 1) (orders bytes)) (due (running l.desk l.lines) (kept l.block)) goes
