@@ -5,3 +5,4 @@ pub mod Start
 pub mod Fronts
 pub mod Runs
 pub mod Steps
+pub mod Whole

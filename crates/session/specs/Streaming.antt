@@ -1,8 +1,10 @@
 -- What a session makes of an input that comes piece by piece, and of an output that may fail: what was written was due, and the rest is due
 -- still. Where the bytes of the input are not known, as those of a pipe, nothing is said.
-use Rattle.std.specs.Prelude.{◌≡◌, ⊤, List, [], ◌++◌, Bool, true, false, ℕ, ◌/◌, take, drop, Option, None, Some}
+use Rattle.std.specs.Prelude.{◌≡◌, ⊤, List, [], ◌++◌, Bool, true, false, ℕ, ◌/◌, length, take, drop, Option, None, Some}
 use Rattle.std.specs.Io.KnownBytes.{Appends, Consumes}
 use Rattle.layout.specs.Layout.{order_bytes}
+use Rattle.report.specs.declared.Report.TheVariants.{DeskLinks}
+use Rattle.report.specs.Line.{line}
 use Rattle.lent.specs.Lent.{tables_of}
 use Rattle.lent.specs.declared.Desk.{Desk}
 use Rattle.opening.specs.Opened.{first_size}
@@ -45,6 +47,10 @@ at_place desk place = record { links = desk.links.now; tables = tables_of desk; 
 
 abbrev pub running : Desk → Lines → Running
 running desk l = at_place desk l.place
+
+-- the lines of a desk that was opened, and of the orders behind it
+abbrev pub opened_lines : Running → List ℕ → List ℕ
+opened_lines r bytes = line 0 (DeskLinks (length r.links)) [] ++ lines r (orders bytes)
 
 -- what is due where the input goes on with these bytes
 abbrev pub due : Running → List ℕ → List ℕ → List ℕ

@@ -6,25 +6,25 @@
 ghost use Rattle.std.specs.Prelude.{◌≡◌, ◌+◌, ◌/◌, ◌≤◌, ◌<◌, ◌^◌, [], ◌∷◌, ◌++◌, true, length, IfSome, IfOk, OnOk, OnErr};
 ghost use Rattle.std.specs.Io.KnownBytes.{Appends};
 ghost use Rattle.layout.specs.Layout.{order_bytes};
-ghost use Rattle.rules.specs.Tables.{Fine};
+ghost use Rattle.rules.specs.Tables.{Fine, lent};
 ghost use Rattle.lent.specs.Lent.{tables_of};
 ghost use Rattle.orders.specs.Ordered.{line_of};
 ghost use Rattle.report.specs.Line.{line};
 ghost use Rattle.opening.specs.Opened.{desk_report};
-ghost use Rattle.session.specs.Session.{answered, behind, lines as lines_of, after, whole_orders, last_piece, orders};
-ghost use Rattle.session.specs.Streaming.{AppendsFront, Moves, Goes, pending, kept, running, at_place, due, due_if, most_orders};
+ghost use Rattle.session.specs.Session.{answered, behind, lines as lines_of, after, whole_orders, last_piece, orders, blank, session};
+ghost use Rattle.session.specs.Streaming.{AppendsFront, Moves, Goes, pending, kept, running, at_place, opened_lines, due, due_if, most_orders};
 
 mod reader;
 mod writer;
 
 use lent::Desk;
-use layout::ORDER_BYTES;
-use opening::write_opened;
+use layout::{FIRST_BYTES, ORDER_BYTES};
+use opening::{open_desk, write_opened};
 use orders::run_order;
-use reader::Block;
+use reader::{Block, read_start};
 use report::MAX_LINE;
 use std::io::{self, ErrorKind, Read, Write};
-use units::Refusal;
+use units::{BOOK_FIGURES, Bandwidth, EVENTS, FREE_FIGURES, Head, LINKS, Link, Minute, Refusal};
 use writer::{Lines, write_whole};
 
 // The most pieces in which an input comes.
@@ -180,4 +180,80 @@ fn write_start<W: Write>(output: &mut W, opened: Result<u32, Refusal>) -> io::Re
     let mut line = [0u8; MAX_LINE];
     let used = write_opened(&mut line, opened);
     write_whole(output, &line[..used])
+}
+
+// Writes the line of a desk that was opened, and runs all orders.
+fn run_opened<R: Read, W: Write>(
+    input: &mut R,
+    output: &mut W,
+    desk: &mut Desk<'_>,
+) -> io::Result<()>
+    requires fine { Fine desk.old.links.now (tables_of desk.old) }
+    ensures whole { OnOk result (IfSome (R.remaining input.old) (λ bytes. Appends (W.contents output.old) (W.contents output.new) (opened_lines (at_place desk.old 1) bytes))) }
+    ensures front { OnErr result (IfSome (R.remaining input.old) (λ bytes. AppendsFront (W.contents output.old) (W.contents output.new) (opened_lines (at_place desk.old 1) bytes))) }
+{
+    write_start(output, Ok(desk.head.links))?;
+    run_all(input, output, desk)
+}
+
+// Runs a session on blank tables and places of links.
+fn run_on<R: Read, W: Write>(
+    input: &mut R,
+    output: &mut W,
+    places: &mut [Link; LINKS],
+    head: &mut Head,
+    events: &mut [u32],
+    free: &mut [u32],
+    book: &mut [u32],
+) -> io::Result<()>
+    requires { lent head.old events.old free.old book.old ≡ blank }
+    ensures whole { OnOk result (IfSome (R.remaining input.old) (λ bytes. Appends (W.contents output.old) (W.contents output.new) (session bytes))) }
+    ensures front { OnErr result (IfSome (R.remaining input.old) (λ bytes. AppendsFront (W.contents output.old) (W.contents output.new) (session bytes))) }
+{
+    let mut first = [0u8; FIRST_BYTES];
+    let size = read_start(input, &mut first)?;
+    match open_desk(&first[..size], places, head, events, free, book) {
+        Err(refusal) => write_start(output, Err(refusal)),
+        Ok(links) => {
+            let mut desk = Desk {
+                head,
+                links,
+                events,
+                free,
+                book,
+            };
+            run_opened(input, output, &mut desk)
+        }
+    }
+}
+
+// Runs a session: reads it from the input, and writes its whole output; where a read or a write fails, some of it, from the first
+// byte on.
+#[tactic(auto, unfolding(crate::specs::Session::blank))]
+pub fn run_session<R: Read, W: Write>(input: &mut R, output: &mut W) -> io::Result<()>
+    ensures whole { OnOk result (IfSome (R.remaining input.old) (λ bytes. Appends (W.contents output.old) (W.contents output.new) (session bytes))) }
+    ensures front { OnErr result (IfSome (R.remaining input.old) (λ bytes. AppendsFront (W.contents output.old) (W.contents output.new) (session bytes))) }
+{
+    let mut head = Head {
+        clock: Minute(0),
+        links: 0,
+        bookings: 0,
+    };
+    let mut places = [Link {
+        from: 0,
+        to: 0,
+        capacity: Bandwidth(0),
+    }; LINKS];
+    let mut events = [0u32; EVENTS];
+    let mut free = [0u32; FREE_FIGURES];
+    let mut book = [0u32; BOOK_FIGURES];
+    run_on(
+        input,
+        output,
+        &mut places,
+        &mut head,
+        &mut events,
+        &mut free,
+        &mut book,
+    )
 }
