@@ -13,9 +13,20 @@ use Rattle.rules.specs.Calls.{checked, best}
 use Rattle.opening.specs.Opened.{first_size, link_record, links_refusal, links_in, bytes_refusal}
 use Rattle.session.specs.Session.{orders, session}
 use Rattle.session_demands.specs.FromPlainBook.{plain_lines, plain_session}
-use Rattle.session_demands.specs.Examples.{session_bytes, PrintsSession}
+use Rattle.session_demands.specs.Examples.{session_bytes, PrintsSession, RefusesStarts}
 use Rattle.session_demands.proofs.PlainBook.{session_plain}
 
 pub session_file : PrintsSession session
 unfolding plain_session plain_lines orders first_size link_record links_refusal links_in bytes_refusal count_from big_endian cut sum clear order_from order_read link_from link_read kinds.answer checked best select member earliest can_start reaches lowest fewest route first_from all_from any_below digits decimal numbers route_text answer line
 session_file = session_plain session_bytes ∙ refl
+
+pub starts_refused : RefusesStarts session
+unfolding plain_session link_record links_refusal links_in bytes_refusal count_from big_endian cut sum link_from link_read first_from digits decimal answer line
+starts_refused = record {
+  no_byte = session_plain _ ∙ refl;
+  no_links = session_plain _ ∙ refl;
+  too_many = session_plain _ ∙ refl;
+  too_few_bytes = session_plain _ ∙ refl;
+  bits_set = session_plain _ ∙ refl;
+  same_node = session_plain _ ∙ refl;
+}

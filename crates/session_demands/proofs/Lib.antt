@@ -9,3 +9,4 @@ pub mod Begun
 pub mod Changed
 pub mod Shams
 pub mod OneLineEach
+pub mod Samples

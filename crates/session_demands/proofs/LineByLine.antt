@@ -3,7 +3,7 @@ use mathlib.Core.Path.{◌≡◌, refl, ap, ap₂, ◌∙◌}
 use mathlib.Core.Logic.{◌≢◌}
 use mathlib.Core.List.{List, [], ◌∷◌, ◌++◌, append_assoc, append-nil}
 use mathlib.Core.Bool.{Bool, true, false, not}
-use Prim.Native.Nat.{ℕ, zero, suc, ◌+◌, ◌*◌, ◌≤◌, ◌<◌}
+use Prim.Native.Nat.{ℕ, zero, suc, ◌+◌, ◌-◌, ◌*◌, ◌≤◌, ◌<◌}
 use native.Mathlib.Decide.{dec_lt}
 use native.Mathlib.Omega.{arith}
 use lib.Dec.{eqb}
@@ -21,15 +21,16 @@ use Rattle.layout.specs.declared.Order.{Order}
 use Rattle.layout.specs.declared.Order.TheVariants as orders_of
 use Rattle.layout.specs.Layout.{order_bytes}
 use Rattle.layout.specs.Records.{if_passed, order_read}
+use Rattle.layout.proofs.Reading.{missized}
 use Rattle.report.specs.declared.Report.TheVariants as reports
-use Rattle.report.specs.Decimal.{decimal}
+use Rattle.report.specs.Decimal.{digits, decimal}
 use Rattle.report.specs.Line.{numbers, route, answer, line}
 use Rattle.report.proofs.Decimals.{only_digits}
 use Rattle.rules.specs.Calls.{Values}
 use Rattle.rules.specs.Tables.{Tables}
 use Rattle.opening.specs.Opened.{first_byte, first_size, opened}
 use Rattle.orders.specs.Ordered.{answered as answered_order, by_reading, ordered, accepted, line_of}
-use Rattle.session.specs.Session.{answered, lines, last_piece, orders, blank, started, session}
+use Rattle.session.specs.Session.{Running, answered, lines, last_piece, orders, blank, started, session}
 use Rattle.session_demands.specs.Cutting.{AtBorder, reached, LineAt, LineByLine}
 use Rattle.session.proofs.Orders.{after_place, orders_short, orders_first, orders_front}
 use Rattle.session_demands.proofs.PlainBook.{links_counted, start_tables}
@@ -150,9 +151,18 @@ one_more a order count at h =
     goes_on a order count at
     ∙ ap (λ x. session a ++ x) (ap (lines (reached a)) (orders_one order h) ∙ append-nil _ ∙ ap (λ n. line_of n (answered (reached a) order)) (next_place a count at))
 
+-- fewer bytes than an order's are refused, and change nothing
+piece_line : (r : Running) (piece : List ℕ) (place : ℕ) → length piece ≢ order_bytes → line_of place (answered r piece) ≡ decimal place ++ codes " refused 12\n"
+unfolding ordered decimal digits answer line
+piece_line r piece place h = ap (λ read. line_of place (by_reading r.links r.tables read)) (missized piece h) ∙ append_assoc (decimal place) (codes " refused 12") (codes "\n")
+
+cut_short : (a piece : List ℕ) (count : ℕ) → AtBorder a count → Within 1 (order_bytes - 1) (length piece) → session (a ++ piece) ≡ session a ++ (decimal (count + 1) ++ codes " refused 12\n")
+cut_short a piece count at h = one_more a piece count at (omega arith, omega arith) ∙ ap (λ x. session a ++ x) (piece_line (reached a) piece (count + 1) (λ e. absurd (omega arith)))
+
 pub line_by_line : LineByLine session
 line_by_line = record {
   refused = refused;
   first = first;
+  cut_short = cut_short;
   one_more = λ a order count at h. (line_of (count + 1) (answered (reached a) order), ordered_line (reached a).links (reached a).tables order (count + 1), one_more a order count at h);
 }

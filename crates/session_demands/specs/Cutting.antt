@@ -1,5 +1,5 @@
 -- A session can be cut at any order's border and gone on with, as properties of any program, from bytes to bytes.
-use Rattle.std.specs.Prelude.{◌≡◌, ◌≢◌, List, [], ◌∷◌, ◌++◌, ℕ, ◌+◌, ◌*◌, ◌≤◌, eqb, length, drop, codes, Ok}
+use Rattle.std.specs.Prelude.{◌≡◌, ◌≢◌, List, [], ◌∷◌, ◌++◌, ℕ, ◌+◌, ◌-◌, ◌*◌, ◌≤◌, eqb, length, drop, codes, Ok}
 use Rattle.units.specs.Lists.{if_so, Within, All}
 use Rattle.layout.specs.declared.Order.TheVariants.{Book, Cancel}
 use Rattle.layout.specs.declared.Wish.{Wish}
@@ -41,6 +41,8 @@ pub record LineByLine (program : List ℕ → List ℕ) : Type 0 where
   pub first : (a : List ℕ) → AtBorder a 0 → program a ≡ codes "desk links " ++ (decimal (first_byte a) ++ codes "\n")
   pub one_more : (a order : List ℕ) (count : ℕ) → AtBorder a count → Within 1 order_bytes (length order)
       → (line : List ℕ) × LineAt (count + 1) line × (program (a ++ order) ≡ program a ++ line)
+  -- 'a last piece of 1 to 15 bytes' is refused 12
+  pub cut_short : (a piece : List ℕ) (count : ℕ) → AtBorder a count → Within 1 (order_bytes - 1) (length piece) → program (a ++ piece) ≡ program a ++ (decimal (count + 1) ++ codes " refused 12\n")
 
 -- a booking that is accepted as any order stands for the next one: it can be cancelled then
 pub record Remembers (program : List ℕ → List ℕ) : Type 0 where

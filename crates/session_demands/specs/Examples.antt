@@ -41,3 +41,14 @@ session_text =
 -- a program prints it
 abbrev pub PrintsSession : (List ℕ → List ℕ) → Type 0
 PrintsSession program = program session_bytes ≡ session_text
+
+-- 'a first byte (12), its range (1), enough bytes for the links (12), each record in turn (11), then the set-up (2)'
+pub record RefusesStarts (program : List ℕ → List ℕ) : Type 0 where
+  pub no_byte : program [] ≡ codes "desk refused 12\n"
+  pub no_links : program (0 ∷ []) ≡ codes "desk refused 1\n"
+  pub too_many : program (65 ∷ []) ≡ codes "desk refused 1\n"
+  pub too_few_bytes : program (1 ∷ 0x00 ∷ 0x40 ∷ 0x00 ∷ 0x28 ∷ 0x00 ∷ 0x00 ∷ 0x00 ∷ []) ≡ codes "desk refused 12\n"
+  -- the last bit of a link is set
+  pub bits_set : program (1 ∷ 0x00 ∷ 0x40 ∷ 0x00 ∷ 0x28 ∷ 0x00 ∷ 0x00 ∷ 0x00 ∷ 0x01 ∷ []) ≡ codes "desk refused 11\n"
+  -- a link from node 0 to itself
+  pub same_node : program (1 ∷ 0x00 ∷ 0x00 ∷ 0x00 ∷ 0x28 ∷ 0x00 ∷ 0x00 ∷ 0x00 ∷ 0x00 ∷ []) ≡ codes "desk refused 2\n"
