@@ -1,5 +1,5 @@
 -- What is written of some bytes, from the first on, where one write comes after another.
-use Rattle.std.proofs.Common.{◌≡◌, ◌++◌, ◌+◌, ◌≤◌, ℕ, List, [], length, take, sym, ap, ◌∙◌, subst, arith, append_assoc, append-nil}
+use Rattle.std.proofs.Common.{◌++◌, ◌+◌, ℕ, List, [], length, take, sym, ap, ◌∙◌, subst, arith, append_assoc, append-nil}
 use Rattle.std.specs.Prelude.{Option}
 use native.Mathlib.Decide.{dec_lt}
 use Rattle.std.specs.Io.KnownBytes.{Appends, Keeps}
@@ -15,7 +15,7 @@ module _ (a b : Option (List ℕ)) (xs : List ℕ) where
 
   pub front_more : (ys : List ℕ) → AppendsFront a b xs → AppendsFront a b (xs ++ ys)
   front_more ys (n, h) = elim (dec_lt (length xs) n) [
-    yes k ↦ (length xs, subst (Appends a b) (take_all n xs (omega (arith, k)) ∙ sym (take-append_seam xs ys)) h)
+    | yes k ↦ (length xs, subst (Appends a b) (take_all n xs (omega (arith, k)) ∙ sym (take-append_seam xs ys)) h)
     | no k ↦ (n, subst (Appends a b) (sym (take-append-le n xs ys (omega (arith, k)))) h)
   ]
 

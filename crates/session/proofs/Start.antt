@@ -41,7 +41,7 @@ size_front (b ∷ bs) rest h = refl
 -- a front of some bytes that is as long as asked, or all of them
 front_is : (k : ℕ) (front rest : List ℕ) → length front ≤ k → (length front < k → rest ≡ []) → (front ≡ take k (front ++ rest)) × (rest ≡ drop k (front ++ rest))
 front_is k front rest h end = elim (dec_lt (length front) k) [
-  yes less ↦ (let e = end less in (
+  | yes less ↦ (let e = end less in (
     sym (ap (λ r. take k (front ++ r)) e ∙ ap (take k) (append-nil front) ∙ take_all k front h),
     e ∙ sym (ap (λ r. drop k (front ++ r)) e ∙ ap (drop k) (append-nil front) ∙ drop_of_length-le front h),
   ))

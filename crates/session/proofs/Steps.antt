@@ -6,7 +6,7 @@ use Rattle.std.proofs.KnownBytes.{Appends-nil}
 use Rattle.std.proofs.Math.Seq.{take-append_seam}
 use Rattle.layout.specs.Layout.{order_bytes}
 use Rattle.session.specs.Session.{Running, lines, after, whole_orders, cut_short, last_piece, orders}
-use Rattle.session.specs.Streaming.{ComesBehind, AppendsFront, Moves, Goes, due, due_if}
+use Rattle.session.specs.Streaming.{ComesBehind, AppendsFront, Goes, due, due_if}
 use Rattle.session.proofs.Fronts.{front_more, front_after, moves_then}
 use Rattle.session.proofs.Orders.{lines_append, orders_more, orders_short}
 

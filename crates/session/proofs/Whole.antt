@@ -1,11 +1,10 @@
 -- A session from its first bytes and the orders behind them.
-use Rattle.std.proofs.Common.{◌≡◌, ◌++◌, ℕ, List, [], Bool, true, false, length, take, drop, refl, sym, ap, ap₂, ◌∙◌, subst, arith}
-use Rattle.std.specs.Prelude.{Option, None, Some, IfSome, eqb}
+use Rattle.std.proofs.Common.{◌≡◌, ◌++◌, ℕ, List, [], Bool, length, take, drop, sym, ap, ap₂, ◌∙◌, subst}
+use Rattle.std.specs.Prelude.{Option, None, Some, IfSome}
 use Rattle.std.specs.Io.KnownBytes.{Appends}
 use Rattle.std.proofs.KnownBytes.{Appends-trans}
 use native.Mathlib.Nat.{le_refl}
 use borrow.Author.Tests.{eq-eqb, ne_eqb}
-use Rattle.units.specs.declared.Link.{Link}
 use Rattle.layout.specs.Records.{if_passed}
 use Rattle.report.specs.declared.Report.TheVariants.{DeskLinks, DeskRefused}
 use Rattle.report.specs.Line.{line}

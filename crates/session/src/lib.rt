@@ -17,8 +17,8 @@ ghost use Rattle.session.specs.Streaming.{AppendsFront, Moves, Goes, pending, ke
 mod reader;
 mod writer;
 
-use lent::Desk;
 use layout::{FIRST_BYTES, ORDER_BYTES};
+use lent::Desk;
 use opening::{open_desk, write_opened};
 use orders::run_order;
 use reader::{Block, read_start};
@@ -32,7 +32,12 @@ const MOST_TURNS: u64 = 1 << 51;
 
 // Runs one order, whose line is written behind the others.
 #[tactic(auto, using(crate::proofs::Fronts::front_more))]
-fn run_one<W: Write>(output: &mut W, lines: &mut Lines, desk: &mut Desk<'_>, order: &[u8]) -> io::Result<()>
+fn run_one<W: Write>(
+    output: &mut W,
+    lines: &mut Lines,
+    desk: &mut Desk<'_>,
+    order: &[u8],
+) -> io::Result<()>
     requires fine { Fine desk.old.links.now (tables_of desk.old) }
     requires within { lines.old.used ≤ length lines.old.bytes }
     requires counted { lines.old.place + 1 < 2 ^ 64 }
@@ -153,11 +158,7 @@ fn answer_some<R: Read, W: Write>(
 
 // Runs all orders of an input. A proved loop has to end, and nothing says that an input does: the turns end at a number of pieces in
 // which no input comes.
-fn run_all<R: Read, W: Write>(
-    input: &mut R,
-    output: &mut W,
-    desk: &mut Desk<'_>,
-) -> io::Result<()>
+fn run_all<R: Read, W: Write>(input: &mut R, output: &mut W, desk: &mut Desk<'_>) -> io::Result<()>
     requires fine { Fine desk.old.links.now (tables_of desk.old) }
     ensures whole { OnOk result (IfSome (R.remaining input.old) (λ bytes. Appends (W.contents output.old) (W.contents output.new) (lines_of (at_place desk.old 1) (orders bytes)))) }
     ensures front { OnErr result (IfSome (R.remaining input.old) (λ bytes. AppendsFront (W.contents output.old) (W.contents output.new) (lines_of (at_place desk.old 1) (orders bytes)))) }

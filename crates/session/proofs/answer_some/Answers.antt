@@ -1,8 +1,7 @@
 -- `answer_some` meets its contract: what has come is answered, but for what is cut short; at the input's end that is the last piece.
-use Rattle.std.proofs.Common.{rules, ◌≡◌, List, [], ℕ, length, take, ap, ◌∙◌, sym, arith}
+use Rattle.std.proofs.Common.{rules, List, [], ℕ, take}
 use Rattle.std.specs.Prelude.{IfSome}
-use Rattle.session.specs.Session.{lines, after, whole_orders}
-use Rattle.session.specs.Streaming.{AppendsFront, ComesBehind, kept, running, due}
+use Rattle.session.specs.Streaming.{AppendsFront, kept, running, due}
 use Rattle.session.proofs.Steps.{answered_whole, whole_fails, answered_last, last_fails}
 use Rattle.session.proofs.answer_some.Given.{Over}
 use Rattle.session.proofs.answer_some.Goals as goal
@@ -18,8 +17,8 @@ returns-in_err-answer_last-clause-front g c =
     let a = c.args in
     let size = c.in_ok-size in
     let fails : IfSome (g.R.Read.remaining a.input.now) (λ bytes. AppendsFront (g.W.Write.contents a.output.now) (g.W.Write.contents c.answer_last.new.output) (due (running a.desk.now a.lines.now) (kept a.block.now) bytes)) =
-        last_fails (g.R.Read.remaining a.input.now) (g.R.Read.remaining c.read_more.new.input) (g.W.Write.contents a.output.now) (g.W.Write.contents c.answer_last.new.output) (running a.desk.now a.lines.now) (kept a.block.now) (all g k size.size)
-        (search rules) (search rules) (search rules) size.ensures.came c.in_err-answer_last.ensures.front in
+    last_fails (g.R.Read.remaining a.input.now) (g.R.Read.remaining c.read_more.new.input) (g.W.Write.contents a.output.now) (g.W.Write.contents c.answer_last.new.output) (running a.desk.now a.lines.now) (kept a.block.now) (all g k size.size)
+    (search rules) (search rules) (search rules) size.ensures.came c.in_err-answer_last.ensures.front in
     search (rules, fails)
 
 pub returns-then-size-block-clause-goes : goal.returns-then-size-block-clause-goes
@@ -36,8 +35,8 @@ returns-in_err-answer_whole-clause-front g c =
     let a = c.args in
     let size = c.in_ok-size in
     let fails : IfSome (g.R.Read.remaining a.input.now) (λ bytes. AppendsFront (g.W.Write.contents a.output.now) (g.W.Write.contents c.answer_whole.new.output) (due (running a.desk.now a.lines.now) (kept a.block.now) bytes)) =
-        whole_fails (g.R.Read.remaining a.input.now) (g.R.Read.remaining c.read_more.new.input) (g.W.Write.contents a.output.now) (g.W.Write.contents c.answer_whole.new.output) (running a.desk.now a.lines.now) (kept a.block.now) (all g k size.size)
-        size.ensures.came c.in_err-answer_whole.ensures.front in
+    whole_fails (g.R.Read.remaining a.input.now) (g.R.Read.remaining c.read_more.new.input) (g.W.Write.contents a.output.now) (g.W.Write.contents c.answer_whole.new.output) (running a.desk.now a.lines.now) (kept a.block.now) (all g k size.size)
+    size.ensures.came c.in_err-answer_whole.ensures.front in
     search (rules, fails)
 
 pub returns-clause-goes : goal.returns-clause-goes

@@ -14,7 +14,7 @@ returns-clause-front g c =
     let before = g.W.Write.contents c.args.output.now in
     let between = g.W.Write.contents mid.output in
     let moved : Moves before between all (pending mid.lines) =
-        subst (λ x. Moves before between x (pending mid.lines)) (none_pending c.args.lines.now c.requires.none _ ∙ ap (lines first) c.as_chunks.ensures.front) c.in_ok-run_orders.ensures.moves in
+    subst (λ x. Moves before between x (pending mid.lines)) (none_pending c.args.lines.now c.requires.none _ ∙ ap (lines first) c.as_chunks.ensures.front) c.in_ok-run_orders.ensures.moves in
     let fails : AppendsFront before (g.W.Write.contents c.write_out.new.output) all =
-        front_after before between (g.W.Write.contents c.write_out.new.output) all (pending mid.lines) moved c.write_out.ensures.front in
+    front_after before between (g.W.Write.contents c.write_out.new.output) all (pending mid.lines) moved c.write_out.ensures.front in
     search (rules, fails)

@@ -13,7 +13,7 @@ returns-in_err-answer_some-clause-front g c =
     let (fine, short, none, place, goes) = l.invariant in
     let all : List ℕ → List ℕ = λ bytes. lines (at_place a.desk.now 1) (orders bytes) in
     let fails : IfSome (g.R.Read.remaining a.input.now) (λ bytes. AppendsFront (g.W.Write.contents a.output.now) (g.W.Write.contents c.answer_some.new.output) (all bytes)) =
-        goes_fails (g.R.Read.remaining a.input.now) (g.R.Read.remaining l.input) (g.W.Write.contents a.output.now) (g.W.Write.contents l.output) all (due (running l.desk l.lines) (kept l.block)) goes (g.W.Write.contents c.answer_some.new.output) c.in_err-answer_some.ensures.front in
+    goes_fails (g.R.Read.remaining a.input.now) (g.R.Read.remaining l.input) (g.W.Write.contents a.output.now) (g.W.Write.contents l.output) all (due (running l.desk l.lines) (kept l.block)) goes (g.W.Write.contents c.answer_some.new.output) c.in_err-answer_some.ensures.front in
     search (rules, fails)
 
 pub loop-preserved : goal.loop-preserved
@@ -25,8 +25,7 @@ loop-preserved g c =
     let all : List ℕ → List ℕ = λ bytes. lines (at_place a.desk.now 1) (orders bytes) in
     let more : c.in_ok-answer_some.field-0 ≡ true = search rules in
     let still : List ℕ → List ℕ = due (running c.answer_some.new.desk c.answer_some.new.lines) (kept c.answer_some.new.block) in
-    let step = subst (λ m. Goes (g.R.Read.remaining l.input) (g.R.Read.remaining c.answer_some.new.input) (g.W.Write.contents l.output) (g.W.Write.contents c.answer_some.new.output) (due (running l.desk l.lines) (kept l.block)) (due_if m still)) more k.goes in
-    (
+    let step = subst (λ m. Goes (g.R.Read.remaining l.input) (g.R.Read.remaining c.answer_some.new.input) (g.W.Write.contents l.output) (g.W.Write.contents c.answer_some.new.output) (due (running l.desk l.lines) (kept l.block)) (due_if m still)) more k.goes in (
       k.fine,
       k.kept,
       search rules,

@@ -1,11 +1,10 @@
 -- `run_on` meets its contract: the start is refused, or its orders are run.
-use Rattle.std.proofs.Common.{rules, ◌≡◌, List, ℕ, refl, length, take, ap₂}
-use Rattle.std.specs.Prelude.{IfSome}
+use Rattle.std.proofs.Common.{rules, List, ℕ, take, ap₂}
 use Rattle.std.specs.Io.KnownBytes.{Appends}
 use Rattle.units.proofs.Refusals.{numbered}
 use Rattle.units.specs.declared.Link.{Link}
 use Rattle.rules.specs.Tables.{Tables, lent}
-use Rattle.session.specs.Session.{Running, session}
+use Rattle.session.specs.Session.{Running}
 use Rattle.session.specs.Streaming.{AppendsFront}
 use Rattle.session.proofs.Whole.{session_refused, session_accepted}
 use Rattle.session.proofs.run_on.Goals as goal

@@ -1,9 +1,7 @@
 -- `run_opened` meets its contract: the orders' lines stand behind the desk's own.
-use Rattle.std.proofs.Common.{rules, ◌≡◌, length, sym}
-use Rattle.std.specs.Prelude.{IfSome}
-use Rattle.std.specs.Io.KnownBytes.{Appends}
+use Rattle.std.proofs.Common.{rules}
 use Rattle.rules.proofs.Fine.{links_are}
-use Rattle.session.specs.Streaming.{AppendsFront, at_place, opened_lines}
+use Rattle.session.specs.Streaming.{at_place}
 use Rattle.session.proofs.Whole.{start_fails, opened_whole, opened_fails}
 use Rattle.session.proofs.run_opened.Goals as goal
 

@@ -1,5 +1,5 @@
 -- `run_orders` meets its contract: the next order's line goes behind those before it.
-use Rattle.std.proofs.Common.{rules, ◌≡◌, ◌+◌, ◌++◌, [], ◌∷◌, List, ℕ, length, get_or, drop, drop_of_length-le, ap, ◌∙◌, arith}
+use Rattle.std.proofs.Common.{rules, ◌≡◌, ◌+◌, ◌++◌, [], ◌∷◌, List, ℕ, get_or, drop, drop_of_length-le, ap, ◌∙◌, arith}
 use Rattle.std.proofs.lemmas.List.{drop_more}
 use Rattle.session.specs.Session.{lines}
 use Rattle.session.specs.Streaming.{AppendsFront, pending, running}
@@ -25,7 +25,7 @@ returns-in_err-run_one-clause-front g c =
     let all = pending c.args.lines.now ++ lines (running c.args.desk.now c.args.lines.now) c.args.orders.now in
     let (fine, within, place, behind_it, moved) = l.invariant in
     let fails : AppendsFront (g.W.Write.contents c.args.output.now) (g.W.Write.contents c.run_one.new.output) all =
-        one_fails (running l.desk l.lines) (next g k) (rest g k) _ (here g k) (g.W.Write.contents c.args.output.now) (g.W.Write.contents l.output) (g.W.Write.contents c.run_one.new.output) all (pending l.lines) moved c.in_err-run_one.ensures.front in
+    one_fails (running l.desk l.lines) (next g k) (rest g k) _ (here g k) (g.W.Write.contents c.args.output.now) (g.W.Write.contents l.output) (g.W.Write.contents c.run_one.new.output) all (pending l.lines) moved c.in_err-run_one.ensures.front in
     search (rules, fails)
 
 pub loop-order-preserved : goal.loop-order-preserved
@@ -35,8 +35,7 @@ loop-order-preserved g c =
     let all = pending c.args.lines.now ++ lines (running c.args.desk.now c.args.lines.now) c.args.orders.now in
     let (fine, within, place, behind_it, moved) = l.invariant in
     let run = c.in_ok-run_one.ensures in
-    let now = running c.run_one.new.desk c.run_one.new.lines in
-    (
+    let now = running c.run_one.new.desk c.run_one.new.lines in (
       run.fine,
       run.within,
       omega (arith, ap (λ x. x.place) run.runs, place),

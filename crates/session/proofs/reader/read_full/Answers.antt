@@ -1,5 +1,5 @@
 -- `read_full` meets its contract: what came is what had come and what a read brought.
-use Rattle.std.proofs.Common.{rules, ◌≡◌, ◌++◌, length, take, sym, subst, arith}
+use Rattle.std.proofs.Common.{rules, sym, subst}
 use Rattle.std.proofs.KnownBytes.{Consumes-trans}
 use Rattle.std.specs.Io.KnownBytes.{Consumes}
 use Rattle.session.proofs.Came.{came_more}

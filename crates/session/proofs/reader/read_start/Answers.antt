@@ -1,5 +1,5 @@
 -- `read_start` meets its contract: the first byte, and the records that it counts.
-use Rattle.std.proofs.Common.{rules, ◌≡◌, sym, ◌∙◌, length}
+use Rattle.std.proofs.Common.{rules}
 use Rattle.session.proofs.Start.{lead_alone, lead_and_records}
 use Rattle.session.proofs.reader.read_start.Goals as goal
 

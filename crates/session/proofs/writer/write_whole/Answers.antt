@@ -1,5 +1,5 @@
 -- `write_whole` meets its contract: what a write took stands behind what was written.
-use Rattle.std.proofs.Common.{rules, ◌≡◌, ◌++◌, ◌-◌, ◌≤◌, length, take, drop, sym, subst, arith}
+use Rattle.std.proofs.Common.{rules, ◌-◌, ◌≤◌, length, sym, subst, arith}
 use Rattle.std.specs.Io.KnownBytes.{Appends}
 use Rattle.std.proofs.KnownBytes.{Appends-trans}
 use Rattle.session.proofs.Came.{take_behind}
