@@ -63,7 +63,7 @@ fn session_links<'a>(bytes: &[u8], places: &'a mut [Link; LINKS]) -> Result<&'a 
 
 // Opens a desk from the first bytes of a session and answers its links, which stand in the lent places: the refusals of the
 // links, then those of set-up.
-#[tactic(auto, unfolding(crate::specs::Opened::opened, desk_core::specs::Lent::refusal_answer, desk_core::specs::Lent::tables_after))]
+#[tactic(auto, unfolding(crate::specs::Opened::opened, sound_calls::specs::Lent::refusal_answer, sound_calls::specs::Lent::tables_after))]
 pub fn open_desk<'a>(
     bytes: &[u8],
     places: &'a mut [Link; LINKS],

@@ -37,3 +37,6 @@ module _ (a b c : Option (List ℕ)) (xs ys : List ℕ) where
 
   pub moves_then : (zs : List ℕ) → Moves a b xs ys → Moves b c ys zs → Moves a c xs zs
   moves_then zs (v, h, e) (w, k, f) = (v ++ w, Appends-trans a b c v w h k, e ∙ ap (λ l. v ++ l) f ∙ sym (append_assoc v w zs))
+
+  pub moves_out : Moves a b xs ys → Appends b c ys → Appends a c xs
+  moves_out (v, h, e) k = subst (Appends a c) (sym e) (Appends-trans a b c v ys h k)

@@ -1,9 +1,10 @@
 -- One order more is run.
-use Rattle.std.proofs.Common.{◌≡◌, ◌++◌, ℕ, List, [], ◌∷◌, sym, ap, ◌∙◌, subst, append_assoc, append-nil}
+use Rattle.std.proofs.Common.{◌≡◌, ◌++◌, ◌<◌, ℕ, List, [], ◌∷◌, length, take, refl, sym, arith, ap, ◌∙◌, subst, append_assoc, append-nil}
 use Rattle.std.specs.Prelude.{Option}
 use Rattle.orders.specs.Ordered.{line_of}
-use Rattle.session.specs.Session.{Running, answered, behind, lines, after}
-use Rattle.session.specs.Streaming.{AppendsFront, Moves}
+use Rattle.session.specs.Session.{Running, answered, behind, lines, after, last_piece}
+use Rattle.session.specs.Streaming.{AppendsFront, Moves, pending}
+use Rattle.session.specs.declared.writer.Lines.{Lines}
 use Rattle.session.proofs.Fronts.{front_more, front_after, moves_more, moves_then}
 
 -- r is the session at an order, and `left` are the orders from it on
@@ -42,3 +43,18 @@ module _ (r : Running) (rest : List (List ℕ)) (none : rest ≡ []) where
   pub all_moved : (a b : Option (List ℕ)) (all before : List ℕ) → Moves a b all (before ++ lines r rest) → Moves a b all before
   unfolding lines
   all_moved a b all before m = subst (Moves a b all) (ap (λ os. before ++ lines r os) none ∙ append-nil before) m
+
+-- a last piece is one order, if it is any
+pub no_last : (r : Running) (piece : List ℕ) → length piece ≡ 0 → lines r (last_piece piece) ≡ []
+unfolding lines
+no_last r [] e = refl
+no_last r (b ∷ bs) e = absurd (omega (arith, e))
+
+pub last_line : (r : Running) (piece : List ℕ) → 0 < length piece → lines r (last_piece piece) ≡ line_of r.place (answered r piece)
+unfolding lines
+last_line r [] h = absurd (omega (arith, h))
+last_line r (b ∷ bs) h = append-nil (line_of r.place (answered r (b ∷ bs)))
+
+-- no line is pending
+pub none_pending : (l : Lines) → l.used ≡ 0 → (xs : List ℕ) → pending l ++ xs ≡ xs
+none_pending l e xs = ap (λ n. take n l.bytes ++ xs) e

@@ -8,7 +8,8 @@ use Rattle.layout.specs.Records.{if_passed}
 use Rattle.report.specs.declared.Report.TheVariants.{DeskLinks, DeskRefused}
 use Rattle.report.specs.Line.{line}
 use Rattle.rules.specs.Tables.{Tables, lent}
-use Rattle.opening.specs.Opened.{first_size, Opened, opened}
+use Rattle.opening.specs.Opened.{Opened, opened}
+unfoldable pub use Rattle.opening.specs.Opened.{first_size}
 use Rattle.orders.specs.Ordered.{Ordered, ordered, line_of}
 
 -- a session under way: its links, its tables, and the place of the next order

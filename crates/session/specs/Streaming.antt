@@ -1,7 +1,8 @@
 -- What a session makes of an input that comes piece by piece, and of an output that may fail: what was written was due, and the rest is due
 -- still. Where the bytes of the input are not known, as those of a pipe, nothing is said.
-use Rattle.std.specs.Prelude.{◌≡◌, ⊤, List, [], ◌++◌, Bool, true, false, ℕ, take, drop, Option, None, Some}
-use Rattle.std.specs.Io.KnownBytes.{Appends}
+use Rattle.std.specs.Prelude.{◌≡◌, ⊤, List, [], ◌++◌, Bool, true, false, ℕ, ◌/◌, take, drop, Option, None, Some}
+use Rattle.std.specs.Io.KnownBytes.{Appends, Consumes}
+use Rattle.layout.specs.Layout.{order_bytes}
 use Rattle.lent.specs.Lent.{tables_of}
 use Rattle.lent.specs.declared.Desk.{Desk}
 use Rattle.opening.specs.Opened.{first_size}
@@ -15,6 +16,10 @@ TakesStart None left start = ⊤
 TakesStart (Some bytes) None start = ⊥
 TakesStart (Some bytes) (Some left) start = (start ≡ take (first_size bytes) bytes) × (left ≡ drop (first_size bytes) bytes)
 
+-- bytes of an input, behind those that came before
+abbrev pub ComesBehind : Option (List ℕ) → Option (List ℕ) → List ℕ → List ℕ → Type 0
+ComesBehind old left before all = (came : List ℕ) × Consumes old left came × (all ≡ before ++ came)
+
 -- some of these bytes, from the first on
 abbrev pub AppendsFront : Option (List ℕ) → Option (List ℕ) → List ℕ → Type 0
 AppendsFront old new bytes = (n : ℕ) × Appends old new (take n bytes)
@@ -27,9 +32,19 @@ pending l = take l.used l.bytes
 abbrev pub kept : Block → List ℕ
 kept b = take b.kept b.bytes
 
--- the session of a desk at the next line's place
+-- the bytes of a block that is full, and its orders
+abbrev pub block_bytes : ℕ
+block_bytes = 65536
+
+abbrev pub most_orders : ℕ
+most_orders = block_bytes / order_bytes
+
+-- the session of a desk at a place, and at that of the next line
+abbrev pub at_place : Desk → ℕ → Running
+at_place desk place = record { links = desk.links.now; tables = tables_of desk; place = place }
+
 abbrev pub running : Desk → Lines → Running
-running desk l = record { links = desk.links.now; tables = tables_of desk; place = l.place }
+running desk l = at_place desk l.place
 
 -- what is due where the input goes on with these bytes
 abbrev pub due : Running → List ℕ → List ℕ → List ℕ

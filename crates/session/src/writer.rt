@@ -25,7 +25,7 @@ fn write_some<W: Write>(output: &mut W, bytes: &[u8]) -> io::Result<usize>
 }
 
 // Writes the bytes: all of them, or where a write fails some, from the first on.
-fn write_whole<W: Write>(output: &mut W, bytes: &[u8]) -> io::Result<()>
+pub(crate) fn write_whole<W: Write>(output: &mut W, bytes: &[u8]) -> io::Result<()>
     ensures whole { OnOk result (Appends (W.contents output.old) (W.contents output.new) bytes.now) }
     ensures front { AppendsFront (W.contents output.old) (W.contents output.new) bytes.now }
 {

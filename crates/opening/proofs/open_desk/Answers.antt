@@ -3,7 +3,7 @@ use Rattle.std.proofs.Common.{sym, subst, rules}
 use Rattle.rules.specs.Tables.{Fine}
 use Rattle.lent.specs.Lent.{tables_of}
 use Rattle.demands.proofs.Sound.{set_up_sound}
-unfoldable use Rattle.desk_core.specs.Lent.{refusal_answer, tables_after}
+unfoldable use Rattle.sound_calls.specs.Lent.{refusal_answer, tables_after}
 use Rattle.opening.proofs.open_desk.Goals as goal
 
 pub returns-clause-fine : goal.returns-clause-fine

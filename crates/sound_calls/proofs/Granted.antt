@@ -19,7 +19,7 @@ use Rattle.units.specs.declared.Link.{Link}
 use Rattle.rules.specs.Plain.{Booking, terms}
 use Rattle.choice.specs.Choice.{Grant, Choice, granted, no_start}
 use Rattle.rules.specs.Calls.{Ask, stands, number_ok, request_ok, own_checks, chosen, best}
-use Rattle.desk_core.specs.Lent.{choice_shown}
+use Rattle.sound_calls.specs.Lent.{choice_shown}
 use Rattle.rules.specs.Tables.{Tables, held, Fine}
 use Rattle.units.specs.Spans.{low_of}
 use Rattle.starts.specs.Asked.{search_of}

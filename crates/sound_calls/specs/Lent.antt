@@ -6,8 +6,8 @@ use Rattle.units.specs.declared.Refusal.{Refusal}
 use Rattle.units.specs.Refusals.{number}
 use Rattle.choice.specs.declared.ChoiceRecord.{ChoiceRecord}
 use Rattle.listing.specs.Ranges.{list_table}
-use Rattle.desk_core.specs.declared.Shown.{Shown}
-use Rattle.desk_core.specs.declared.Listed.{Listed}
+use Rattle.sound_calls.specs.declared.Shown.{Shown}
+use Rattle.sound_calls.specs.declared.Listed.{Listed}
 use Rattle.rules.specs.Calls.{Call, Answer, done, starts, lists, shows, refused, values}
 use Rattle.rules.specs.Tables.{Tables}
 use Rattle.rules.specs.Desk.{outcome}

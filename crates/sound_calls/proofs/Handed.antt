@@ -3,11 +3,11 @@ use mathlib.Core.Path.{◌≡◌, sym, ◌∙◌, ap}
 use mathlib.Core.List.{List}
 use Prim.Native.Nat.{ℕ}
 use Rattle.units.specs.declared.Link.{Link}
-use Rattle.desk_core.specs.declared.Listed.{Listed}
+use Rattle.sound_calls.specs.declared.Listed.{Listed}
 use Rattle.rules.specs.Calls.{Call, values}
 use Rattle.rules.specs.Tables.{Tables}
 use Rattle.rules.specs.Desk.{Outcome, outcome}
-use Rattle.desk_core.specs.Lent.{choice_shown, listed, list_left, shown, choice_answer, listed_answer, list_after, shown_answer, refusal_answer, tables_after}
+use Rattle.sound_calls.specs.Lent.{choice_shown, listed, list_left, shown, choice_answer, listed_answer, list_after, shown_answer, refusal_answer, tables_after}
 
 module _ (links : List Link) (t : Tables) (c : Call) (o : Outcome) (e : outcome links t c ≡ o) where
   -- the tables that are handed back
