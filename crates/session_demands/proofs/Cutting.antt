@@ -13,9 +13,9 @@ use Rattle.report.specs.declared.Report.TheVariants.{DeskLinks, DeskRefused}
 use Rattle.report.specs.Line.{line}
 use Rattle.opening.specs.Opened.{first_size, Opened, opened}
 use Rattle.opening.proofs.First.{opened_first}
-use Rattle.session.specs.Session.{lines, whole_orders, cut_short, last_piece, orders, blank, started, output, session}
+use Rattle.session.specs.Session.{lines, after, whole_orders, cut_short, last_piece, orders, blank, started, output, session}
 use Rattle.session_demands.specs.Cutting.{AtBorder, Refused, reached, CutAnywhere}
-use Rattle.session.proofs.Orders.{lines_append, orders_more}
+use Rattle.session.proofs.Orders.{lines_append, after_append, orders_more}
 
 -- the first byte, and how many bytes stand before the orders, whatever comes behind them
 pub first_size_front : (a b : List ℕ) → 1 ≤ length a → first_size (a ++ b) ≡ first_size a
@@ -73,6 +73,14 @@ goes_on a b count at =
     ∙ ap (λ x. first ++ x) (ap (lines (started o)) (orders_cut rest b count (rw length-drop (omega (arith, at.border)))) ∙ lines_append (started o) (orders rest) (orders b))
     ∙ sym (append_assoc first _ _)
     ∙ sym (ap (λ x. x ++ lines (reached a) (orders b)) (output_accepted o rest at.accepted))
+
+-- and the session reached behind both is the one that goes on from there, so that an input may be cut again and again
+pub reached_behind : (a b : List ℕ) (count : ℕ) → AtBorder a count → reached (a ++ b) ≡ after (reached a) (orders b)
+reached_behind a b count at =
+    let rest = drop (first_size a) a in
+    front (λ o bytes. after (started o) (orders bytes)) a b (omega (arith, at.border))
+    ∙ ap (after (started (opened blank a))) (orders_cut rest b count (rw length-drop (omega (arith, at.border))))
+    ∙ after_append (started (opened blank a)) (orders rest) (orders b)
 
 stops : (a b : List ℕ) → Refused a → session (a ++ b) ≡ session a
 unfolding session
