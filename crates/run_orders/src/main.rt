@@ -3,10 +3,13 @@
 #![tactic(auto)]
 
 use session::run_session;
-use std::io;
+use std::io::{self, ErrorKind};
 
 fn main(rt: HostRuntime) -> io::Result<()> {
     let mut stdin = rt.stdin();
     let mut stdout = rt.stdout();
-    run_session(&mut stdin, &mut stdout)
+    if !run_session(&mut stdin, &mut stdout)? {
+        return Err(io::Error::from(ErrorKind::FileTooLarge));
+    }
+    Ok(())
 }

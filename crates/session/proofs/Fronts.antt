@@ -9,9 +9,12 @@ use Rattle.std.proofs.Math.Seq.{take-append-add, take-append_seam}
 use Rattle.session.specs.Streaming.{AppendsFront, Moves}
 
 module _ (a b : Option (List ℕ)) (xs : List ℕ) where
-  -- none of the bytes are a front of them, and a front of some bytes is one of those and more behind them
+  -- all of the bytes are a front of them, and so are none; a front of some bytes is one of those and more behind them
   pub front_none : Keeps a b → AppendsFront a b xs
   front_none h = (0, Appends-kept a a b [] (Appends-nil a) h)
+
+  pub front_all : Appends a b xs → AppendsFront a b xs
+  front_all h = (length xs, subst (Appends a b) (sym (take_all (length xs) xs (omega arith))) h)
 
   pub front_more : (ys : List ℕ) → AppendsFront a b xs → AppendsFront a b (xs ++ ys)
   front_more ys (n, h) = elim (dec_lt (length xs) n) [

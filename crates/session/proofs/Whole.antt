@@ -13,7 +13,7 @@ use Rattle.opening.specs.Opened.{Opened, opened, first_size}
 use Rattle.opening.proofs.First.{opened_first}
 use Rattle.session.specs.Session.{Running, lines, orders, blank, started, output, session}
 use Rattle.session.specs.Streaming.{TakesStart, AppendsFront, opened_lines}
-use Rattle.session.proofs.Fronts.{front_more, front_then}
+use Rattle.session.proofs.Fronts.{front_all, front_more, front_then}
 
 -- what the first bytes give is what all bytes give
 same_opened : (t : Tables) (bytes start : List ℕ) → t ≡ blank → start ≡ take (first_size bytes) bytes → opened t start ≡ opened blank bytes
@@ -51,6 +51,11 @@ module _ (old left : Option (List ℕ)) (start : List ℕ) (takes : TakesStart o
       by (Some bytes) (Some rest) c p =
           let o = same_opened t bytes start zeros c.0 in
           subst P (sym (accepted (opened blank bytes) (drop (first_size bytes) bytes) (sym (e ∙ ap (λ x. x.answer.refusal) o)) ∙ ap₂ opened_lines (sym (same ∙ ap started o)) (sym c.1))) p
+
+-- what is written whole is a front
+pub whole_front : (a x y : Option (List ℕ)) (all : List ℕ → List ℕ) → IfSome a (λ bytes. Appends x y (all bytes)) → IfSome a (λ bytes. AppendsFront x y (all bytes))
+whole_front None x y all w = tt
+whole_front (Some bytes) x y all w = front_all x y (all bytes) w
 
 -- the desk's own line, and the orders' lines behind it
 module _ (a x y : Option (List ℕ)) (r : Running) (count : ℕ) (counts : count ≡ length r.links) where

@@ -1,6 +1,6 @@
 -- What a session makes of an input that comes piece by piece, and of an output that may fail: what was written was due, and the rest is due
 -- still. Where the bytes of the input are not known, as those of a pipe, nothing is said.
-use Rattle.std.specs.Prelude.{◌≡◌, ⊤, List, [], ◌++◌, Bool, true, false, ℕ, ◌/◌, length, take, drop, Option, None, Some}
+use Rattle.std.specs.Prelude.{◌≡◌, ⊤, List, [], ◌++◌, Bool, true, false, ℕ, ◌+◌, ◌/◌, ◌^◌, ◌≤◌, length, take, drop, Option, None, Some, IfSome}
 use Rattle.std.specs.Io.KnownBytes.{Appends, Consumes}
 use Rattle.layout.specs.Layout.{order_bytes}
 use Rattle.report.specs.declared.Report.TheVariants.{DeskLinks}
@@ -25,6 +25,16 @@ ComesBehind old left before all = (came : List ℕ) × Consumes old left came ×
 -- some of these bytes, from the first on
 abbrev pub AppendsFront : Option (List ℕ) → Option (List ℕ) → List ℕ → Type 0
 AppendsFront old new bytes = (n : ℕ) × Appends old new (take n bytes)
+
+-- so many bytes at least were taken off an input
+abbrev pub Taken : ℕ → Option (List ℕ) → Option (List ℕ) → Type 0
+Taken n None left = ⊤
+Taken n (Some bytes) None = ⊥
+Taken n (Some bytes) (Some left) = n + length left ≤ length bytes
+
+-- an input that no program reads to its end: at a million pieces a second it takes seventy years
+abbrev pub Long : Option (List ℕ) → Type 0
+Long input = IfSome input (λ bytes. 2 ^ 51 ≤ length bytes)
 
 -- lines that stand in a buffer, to be written
 abbrev pub pending : Lines → List ℕ

@@ -3,7 +3,7 @@
 // are written, before more is read.
 #![tactic(auto)]
 
-ghost use Rattle.std.specs.Prelude.{◌≡◌, ◌+◌, ◌/◌, ◌≤◌, ◌<◌, ◌^◌, [], ◌∷◌, ◌++◌, true, length, IfSome, IfOk, OnOk, OnErr};
+ghost use Rattle.std.specs.Prelude.{◌≡◌, ◌+◌, ◌/◌, ◌≤◌, ◌<◌, ◌^◌, [], ◌∷◌, ◌++◌, true, false, length, IfSome, IfOk, OnOk, OnErr};
 ghost use Rattle.std.specs.Io.KnownBytes.{Appends};
 ghost use Rattle.layout.specs.Layout.{order_bytes};
 ghost use Rattle.rules.specs.Tables.{Fine, lent};
@@ -12,7 +12,7 @@ ghost use Rattle.orders.specs.Ordered.{line_of};
 ghost use Rattle.report.specs.Line.{line};
 ghost use Rattle.opening.specs.Opened.{desk_report};
 ghost use Rattle.session.specs.Session.{answered, behind, lines as lines_of, after, whole_orders, last_piece, orders, blank, session};
-ghost use Rattle.session.specs.Streaming.{AppendsFront, Moves, Goes, pending, kept, running, at_place, opened_lines, due, due_if, most_orders};
+ghost use Rattle.session.specs.Streaming.{AppendsFront, Moves, Goes, pending, kept, running, at_place, opened_lines, due, due_if, most_orders, Taken, Long};
 
 mod reader;
 mod writer;
@@ -141,6 +141,7 @@ fn answer_some<R: Read, W: Write>(
     ensures kept { OnOk result (block.new.kept < order_bytes) }
     ensures none { IfOk result (λ more. more ≡ true → lines.new.used ≡ 0) }
     ensures counted { IfOk result (λ more. more ≡ true → lines.new.place ≤ lines.old.place + most_orders) }
+    ensures taken { IfOk result (λ more. more ≡ true → Taken 1 (R.remaining input.old) (R.remaining input.new)) }
     ensures goes { IfOk result (λ more. Goes (R.remaining input.old) (R.remaining input.new) (W.contents output.old) (W.contents output.new)
         (due (running desk.old lines.old) (kept block.old)) (due_if more (due (running desk.new lines.new) (kept block.new)))) }
     ensures front { OnErr result (IfSome (R.remaining input.old) (λ bytes. AppendsFront (W.contents output.old) (W.contents output.new)
@@ -156,27 +157,32 @@ fn answer_some<R: Read, W: Write>(
     Ok(true)
 }
 
-// Runs all orders of an input. A proved loop has to end, and nothing says that an input does: the turns end at a number of pieces in
-// which no input comes.
-fn run_all<R: Read, W: Write>(input: &mut R, output: &mut W, desk: &mut Desk<'_>) -> io::Result<()>
+// Runs all orders of an input. Whether it ended: a proved loop has to end, and nothing says that an input does, so the turns end at
+// a number of pieces in which no input comes.
+fn run_all<R: Read, W: Write>(
+    input: &mut R,
+    output: &mut W,
+    desk: &mut Desk<'_>,
+) -> io::Result<bool>
     requires fine { Fine desk.old.links.now (tables_of desk.old) }
-    ensures whole { OnOk result (IfSome (R.remaining input.old) (λ bytes. Appends (W.contents output.old) (W.contents output.new) (lines_of (at_place desk.old 1) (orders bytes)))) }
-    ensures front { OnErr result (IfSome (R.remaining input.old) (λ bytes. AppendsFront (W.contents output.old) (W.contents output.new) (lines_of (at_place desk.old 1) (orders bytes)))) }
+    ensures long { IfOk result (λ ended. ended ≡ false → Long (R.remaining input.old)) }
+    ensures whole { IfOk result (λ ended. ended ≡ true → IfSome (R.remaining input.old) (λ bytes. Appends (W.contents output.old) (W.contents output.new) (lines_of (at_place desk.old 1) (orders bytes)))) }
+    ensures front { IfSome (R.remaining input.old) (λ bytes. AppendsFront (W.contents output.old) (W.contents output.new) (lines_of (at_place desk.old 1) (orders bytes))) }
 {
     let mut block = Block::new();
     let mut lines = Lines::new();
     for _ in 0..MOST_TURNS {
         if !answer_some(input, output, &mut block, &mut lines, desk)? {
-            return Ok(());
+            return Ok(true);
         }
     }
-    Err(io::Error::from(ErrorKind::TimedOut))
+    Ok(false)
 }
 
 // Writes the desk's own line.
 fn write_start<W: Write>(output: &mut W, opened: Result<u32, Refusal>) -> io::Result<()>
     ensures whole { OnOk result (Appends (W.contents output.old) (W.contents output.new) (line 0 (desk_report opened) [])) }
-    ensures front { OnErr result (AppendsFront (W.contents output.old) (W.contents output.new) (line 0 (desk_report opened) [])) }
+    ensures front { AppendsFront (W.contents output.old) (W.contents output.new) (line 0 (desk_report opened) []) }
 {
     let mut line = [0u8; MAX_LINE];
     let used = write_opened(&mut line, opened);
@@ -188,10 +194,11 @@ fn run_opened<R: Read, W: Write>(
     input: &mut R,
     output: &mut W,
     desk: &mut Desk<'_>,
-) -> io::Result<()>
+) -> io::Result<bool>
     requires fine { Fine desk.old.links.now (tables_of desk.old) }
-    ensures whole { OnOk result (IfSome (R.remaining input.old) (λ bytes. Appends (W.contents output.old) (W.contents output.new) (opened_lines (at_place desk.old 1) bytes))) }
-    ensures front { OnErr result (IfSome (R.remaining input.old) (λ bytes. AppendsFront (W.contents output.old) (W.contents output.new) (opened_lines (at_place desk.old 1) bytes))) }
+    ensures long { IfOk result (λ ended. ended ≡ false → Long (R.remaining input.old)) }
+    ensures whole { IfOk result (λ ended. ended ≡ true → IfSome (R.remaining input.old) (λ bytes. Appends (W.contents output.old) (W.contents output.new) (opened_lines (at_place desk.old 1) bytes))) }
+    ensures front { IfSome (R.remaining input.old) (λ bytes. AppendsFront (W.contents output.old) (W.contents output.new) (opened_lines (at_place desk.old 1) bytes)) }
 {
     write_start(output, Ok(desk.head.links))?;
     run_all(input, output, desk)
@@ -206,15 +213,19 @@ fn run_on<R: Read, W: Write>(
     events: &mut [u32],
     free: &mut [u32],
     book: &mut [u32],
-) -> io::Result<()>
+) -> io::Result<bool>
     requires { lent head.old events.old free.old book.old ≡ blank }
-    ensures whole { OnOk result (IfSome (R.remaining input.old) (λ bytes. Appends (W.contents output.old) (W.contents output.new) (session bytes))) }
-    ensures front { OnErr result (IfSome (R.remaining input.old) (λ bytes. AppendsFront (W.contents output.old) (W.contents output.new) (session bytes))) }
+    ensures long { IfOk result (λ ended. ended ≡ false → IfSome (R.remaining input.old) (λ bytes. 2 ^ 51 ≤ length bytes)) }
+    ensures whole { IfOk result (λ ended. ended ≡ true → IfSome (R.remaining input.old) (λ bytes. Appends (W.contents output.old) (W.contents output.new) (session bytes))) }
+    ensures front { IfSome (R.remaining input.old) (λ bytes. AppendsFront (W.contents output.old) (W.contents output.new) (session bytes)) }
 {
     let mut first = [0u8; FIRST_BYTES];
     let size = read_start(input, &mut first)?;
     match open_desk(&first[..size], places, head, events, free, book) {
-        Err(refusal) => write_start(output, Err(refusal)),
+        Err(refusal) => {
+            write_start(output, Err(refusal))?;
+            Ok(true)
+        }
         Ok(links) => {
             let mut desk = Desk {
                 head,
@@ -228,12 +239,13 @@ fn run_on<R: Read, W: Write>(
     }
 }
 
-// Runs a session: reads it from the input, and writes its whole output; where a read or a write fails, some of it, from the first
-// byte on.
+// Runs a session: reads it from the input and writes its whole output, and answers whether it ended; only an input of 2^51 bytes
+// does not. Where a read or a write fails, some of the output is written, from the first byte on.
 #[tactic(auto, unfolding(crate::specs::Session::blank))]
-pub fn run_session<R: Read, W: Write>(input: &mut R, output: &mut W) -> io::Result<()>
-    ensures whole { OnOk result (IfSome (R.remaining input.old) (λ bytes. Appends (W.contents output.old) (W.contents output.new) (session bytes))) }
-    ensures front { OnErr result (IfSome (R.remaining input.old) (λ bytes. AppendsFront (W.contents output.old) (W.contents output.new) (session bytes))) }
+pub fn run_session<R: Read, W: Write>(input: &mut R, output: &mut W) -> io::Result<bool>
+    ensures long { IfOk result (λ ended. ended ≡ false → IfSome (R.remaining input.old) (λ bytes. 2 ^ 51 ≤ length bytes)) }
+    ensures whole { IfOk result (λ ended. ended ≡ true → IfSome (R.remaining input.old) (λ bytes. Appends (W.contents output.old) (W.contents output.new) (session bytes))) }
+    ensures front { IfSome (R.remaining input.old) (λ bytes. AppendsFront (W.contents output.old) (W.contents output.new) (session bytes)) }
 {
     let mut head = Head {
         clock: Minute(0),

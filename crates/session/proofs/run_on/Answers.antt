@@ -13,19 +13,23 @@ use Rattle.session.proofs.run_on.Goals as goal
 abbrev at_first : List Link → Tables → Running
 at_first links t = record { links = links; tables = t; place = 1 }
 
-pub returns-in-Err-clause-whole : goal.returns-in-Err-clause-whole
-returns-in-Err-clause-whole g c =
-    let size = c.in_ok-size in
-    let P : List ℕ → Type 0 = λ bytes. Appends (g.W.Write.contents c.args.output.now) (g.W.Write.contents c.write_start.new.output) bytes in
-    let whole = session_refused (g.R.Read.remaining c.args.input.now) (g.R.Read.remaining c.read_start.new.input) (take size.size c.read_start.new.first) size.ensures.start _ c.requires P _ c.in-Err.ensures.refusal (numbered c.in-Err.refusal) in
-    search (rules, whole)
-
-pub returns-in-Err-clause-front : goal.returns-in-Err-clause-front
-returns-in-Err-clause-front g c =
+pub returns-in_err-write_start-in-Err-clause-front : goal.returns-in_err-write_start-in-Err-clause-front
+returns-in_err-write_start-in-Err-clause-front g c =
     let size = c.in_ok-size in
     let P : List ℕ → Type 0 = λ bytes. AppendsFront (g.W.Write.contents c.args.output.now) (g.W.Write.contents c.write_start.new.output) bytes in
-    let fails = session_refused (g.R.Read.remaining c.args.input.now) (g.R.Read.remaining c.read_start.new.input) (take size.size c.read_start.new.first) size.ensures.start _ c.requires P _ c.in-Err.ensures.refusal (numbered c.in-Err.refusal) in
-    search (rules, fails)
+    session_refused (g.R.Read.remaining c.args.input.now) (g.R.Read.remaining c.read_start.new.input) (take size.size c.read_start.new.first) size.ensures.start _ c.requires P _ c.in-Err.ensures.refusal (numbered c.in-Err.refusal) c.in_err-write_start-in-Err.ensures.front
+
+pub returns-in_ok-write_start-in-Err-clause-whole : goal.returns-in_ok-write_start-in-Err-clause-whole
+returns-in_ok-write_start-in-Err-clause-whole g c e =
+    let size = c.in_ok-size in
+    let P : List ℕ → Type 0 = λ bytes. Appends (g.W.Write.contents c.args.output.now) (g.W.Write.contents c.write_start.new.output) bytes in
+    session_refused (g.R.Read.remaining c.args.input.now) (g.R.Read.remaining c.read_start.new.input) (take size.size c.read_start.new.first) size.ensures.start _ c.requires P _ c.in-Err.ensures.refusal (numbered c.in-Err.refusal) c.in_ok-write_start-in-Err.ensures.whole
+
+pub returns-in_ok-write_start-in-Err-clause-front : goal.returns-in_ok-write_start-in-Err-clause-front
+returns-in_ok-write_start-in-Err-clause-front g c =
+    let size = c.in_ok-size in
+    let P : List ℕ → Type 0 = λ bytes. AppendsFront (g.W.Write.contents c.args.output.now) (g.W.Write.contents c.write_start.new.output) bytes in
+    session_refused (g.R.Read.remaining c.args.input.now) (g.R.Read.remaining c.read_start.new.input) (take size.size c.read_start.new.first) size.ensures.start _ c.requires P _ c.in-Err.ensures.refusal (numbered c.in-Err.refusal) c.in_ok-write_start-in-Err.ensures.front
 
 pub returns-in-Ok-clause-whole : goal.returns-in-Ok-clause-whole
 returns-in-Ok-clause-whole g c =
