@@ -1,5 +1,5 @@
 -- `run_opened` meets its contract: the orders' lines stand behind the desk's own.
-use Rattle.std.proofs.Common.{rules, ◌≡◌, length}
+use Rattle.std.proofs.Common.{rules}
 use Rattle.rules.proofs.Fine.{links_are}
 use Rattle.session.specs.Streaming.{at_place}
 use Rattle.session.proofs.Whole.{start_fails, opened_whole, opened_fails}
