@@ -1,4 +1,4 @@
--- The theorems of the desk, one module for each. Nothing rests on this crate.
+-- The theorems of the desk, one module for each. Nothing rests on this crate but the program, on `Sound`.
 pub mod Lawful
 pub mod Demand1
 pub mod Demand2

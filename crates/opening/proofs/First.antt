@@ -9,12 +9,13 @@ use borrow.Author.Tests.{ne_eqb}
 use lib.Dec.{leb}
 use lib.ListN.{length, take, drop}
 use lib.Seq.{take_all}
-use Rattle.std.specs.Prelude.{is_err, eqb}
+use Rattle.std.specs.Prelude.{None, Some, is_err, eqb}
 use Rattle.std.proofs.lemmas.List.{drop-take, take-take, length-take-le}
 use Rattle.std.proofs.lemmas.Bool.{le-leb}
 use Rattle.units.specs.declared.Link.{Link}
 use Rattle.units.specs.Limits.{most_links}
 use Rattle.units.specs.Lists.{within, count_from}
+use Rattle.units.proofs.Tests.{in_range}
 use Rattle.units.specs.Search.{Found, at, nothing, first_from}
 use Rattle.units.proofs.Search.{IsFirst, first_from_found}
 use Rattle.units.specs.Refusals.{bad_size, bad_length, number_of}
@@ -23,7 +24,7 @@ use Rattle.layout.specs.Layout.{lead_bytes, link_bytes}
 use Rattle.layout.specs.Records.{if_passed, link_read}
 use Rattle.layout.specs.Values.{link_values}
 use Rattle.rules.specs.Tables.{Tables}
-use Rattle.opening.specs.Opened.{link_record, unreadable, refusal_of, links_refusal, links_in, first_size, bytes_refusal, Opened, by_set_up, opened}
+use Rattle.opening.specs.Opened.{link_record, unreadable, refusal_of, links_refusal, links_in, first_byte, records_size, first_size, bytes_refusal, Opened, by_set_up, opened}
 
 -- a piece within the first n bytes
 piece_first : (size before n : ℕ) (bytes : List ℕ) → before + size ≤ n → take size (drop before (take n bytes)) ≡ take size (drop before bytes)
@@ -98,3 +99,24 @@ unfolding first_size
 opened_first t bytes zero h = absurd (omega arith)
 opened_first t [] (suc n) h = refl
 opened_first t (b ∷ bs) (suc n) h = elim (dec_le (length bs) n) [ yes k ↦ ap (λ l. opened t (b ∷ l)) (take_all n bs k) | no k ↦ cut_first t b bs n (omega arith) h ]
+
+-- the first bytes by what follows the first one, as `records_size` says it
+module _ (bytes : List ℕ) where
+  pub size_counted : {n : ℕ} → records_size (first_byte bytes) ≡ Some n → (first_size bytes ≡ lead_bytes + n) × (n ≤ most_links * link_bytes)
+  unfolding first_size
+  size_counted {n} e = by (within 1 most_links (first_byte bytes)) refl e
+    where
+      by : (x : Bool) → within 1 most_links (first_byte bytes) ≡ x → if_passed x (Some (first_byte bytes * link_bytes)) None ≡ Some n → (first_size bytes ≡ lead_bytes + n) × (n ≤ most_links * link_bytes)
+      by true q e =
+          let same : first_byte bytes * link_bytes ≡ n = cc in
+          let few = ((in_range 1 most_links (first_byte bytes)).0 q).1 in
+          (rw q (ap (λ k. lead_bytes + k) same), omega (arith, same, few))
+      by false q e = absurd (let z : ◌≡◌ {A = ℕ} 0 1 = cc in omega arith)
+
+  pub size_uncounted : records_size (first_byte bytes) ≡ None → first_size bytes ≡ lead_bytes
+  unfolding first_size
+  size_uncounted e = by (within 1 most_links (first_byte bytes)) refl e
+    where
+      by : (x : Bool) → within 1 most_links (first_byte bytes) ≡ x → if_passed x (Some (first_byte bytes * link_bytes)) None ≡ None → first_size bytes ≡ lead_bytes
+      by true q e = absurd (let z : ◌≡◌ {A = ℕ} 0 1 = cc in omega arith)
+      by false q e = rw q refl
