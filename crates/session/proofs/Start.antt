@@ -1,7 +1,5 @@
 -- The first bytes of a session, as they come.
-use Rattle.std.proofs.Common.{◌≡◌, ◌++◌, ◌+◌, ◌-◌, ◌*◌, ◌≤◌, ◌<◌, ℕ, List, [], ◌∷◌, Bool, true, false, length, get_or, take, drop, refl, sym, ap, ◌∙◌, subst, arith, append-nil, drop_of_length-le}
-use mathlib.Core.Bool.{true≢false}
-use Rattle.std.specs.Option.{is_some, unwrap_or}
+use Rattle.std.proofs.Common.{◌≡◌, ◌++◌, ◌+◌, ◌-◌, ◌≤◌, ◌<◌, ℕ, List, [], ◌∷◌, length, get_or, take, drop, refl, sym, ap, ◌∙◌, subst, arith, append-nil, drop_of_length-le}
 use Rattle.std.specs.Prelude.{Option, None, Some}
 use Rattle.std.specs.Io.KnownBytes.{Consumes, IsAtEnd}
 use Rattle.std.proofs.KnownBytes.{Consumes-trans}
@@ -9,28 +7,9 @@ use Rattle.std.proofs.lemmas.List.{take_all, length-take-le, take-append-le}
 use borrow.Rule.Slice.PartMut.{put_mid}
 use Rattle.std.proofs.Math.Seq.{take-append_seam, take-append-add, drop-append_seam}
 use native.Mathlib.Decide.{dec_lt}
-use Rattle.units.specs.Limits.{most_links}
-use Rattle.units.specs.Lists.{within, if_so}
-use Rattle.layout.specs.Layout.{lead_bytes, link_bytes}
-use Rattle.layout.specs.Records.{if_passed}
-use Rattle.opening.specs.Opened.{first_byte, first_size, records_size}
+use Rattle.opening.specs.Opened.{first_size, records_size}
+use Rattle.opening.proofs.First.{size_counted, size_uncounted}
 use Rattle.session.specs.Streaming.{TakesStart}
-
-pub no_records : (bytes : List ℕ) → records_size (first_byte bytes) ≡ None → first_size bytes ≡ lead_bytes
-unfolding first_size
-no_records bytes = by (within 1 most_links (first_byte bytes))
-  where
-    by : (x : Bool) → if_passed x (Some (first_byte bytes * link_bytes)) None ≡ None → lead_bytes + if_so x (first_byte bytes * link_bytes) ≡ lead_bytes
-    by true e = absurd (true≢false (ap is_some e))
-    by false e = refl
-
-pub some_records : (bytes : List ℕ) (size : ℕ) → records_size (first_byte bytes) ≡ Some size → first_size bytes ≡ lead_bytes + size
-unfolding first_size
-some_records bytes size = by (within 1 most_links (first_byte bytes))
-  where
-    by : (x : Bool) → if_passed x (Some (first_byte bytes * link_bytes)) None ≡ Some size → lead_bytes + if_so x (first_byte bytes * link_bytes) ≡ lead_bytes + size
-    by true e = ap (λ o. lead_bytes + unwrap_or o 0) e
-    by false e = absurd (true≢false (sym (ap is_some e)))
 
 -- the first byte alone tells the size
 size_front : (start rest : List ℕ) → 1 ≤ length start → first_size (start ++ rest) ≡ first_size start
@@ -66,7 +45,7 @@ module _ (old left : Option (List ℕ)) (n : ℕ) (some : n ≡ 0 → ⊥) (few 
   lead_alone [] post one c e = absurd (omega (arith, one))
   lead_alone (b ∷ d ∷ bs) post one c e = absurd (omega (arith, one))
   lead_alone (b ∷ []) post one c e =
-      let size = no_records (b ∷ []) e in
+      let size = size_uncounted (b ∷ []) e in
       start_came old left (b ∷ []) (omega arith) (omega (arith, size)) (λ less. absurd (omega (arith, less, size))) (came_one b c)
 
   pub lead_and_records : (end : Option (List ℕ)) (size k : ℕ) (lead post records : List ℕ) → length lead ≡ 1 → Consumes old left (take n lead) → records_size (get_or (lead ++ post) 0 0) ≡ Some size
@@ -75,7 +54,7 @@ module _ (old left : Option (List ℕ)) (n : ℕ) (some : n ≡ 0 → ⊥) (few 
   lead_and_records end size k (b ∷ d ∷ bs) post records one c e long within came ended = absurd (omega (arith, one))
   lead_and_records end size k (b ∷ []) post records one c e long within came ended =
       let start : List ℕ = b ∷ take k records in
-      let whole = some_records (b ∷ []) size e in
+      let whole = (size_counted (b ∷ []) e).0 in
       let whole_start : first_size start ≡ 1 + size = size_front (b ∷ []) (take k records) (omega arith) ∙ whole in
       let long_start : length start ≡ 1 + k = omega (arith, length-take-le k records within) in
       subst (TakesStart old end) (sym (take-append-add (b ∷ []) (records ++ _) k ∙ ap (λ l. b ∷ l) (take-append-le k records _ within)))
