@@ -8,8 +8,7 @@ use Rattle.layout.specs.Records.{if_passed}
 use Rattle.report.specs.declared.Report.TheVariants.{DeskLinks, DeskRefused}
 use Rattle.report.specs.Line.{line}
 use Rattle.rules.specs.Tables.{Tables, lent}
-use Rattle.opening.specs.Opened.{Opened, opened}
-unfoldable pub use Rattle.opening.specs.Opened.{first_size}
+use Rattle.opening.specs.Opened.{first_size, Opened, opened}
 use Rattle.orders.specs.Ordered.{Ordered, ordered, line_of}
 
 -- a session under way: its links, its tables, and the place of the next order
@@ -49,7 +48,7 @@ last_piece (b ∷ bs) = (b ∷ bs) ∷ []
 unfoldable pub orders : List ℕ → List (List ℕ)
 orders bytes = whole_orders bytes ++ last_piece (cut_short bytes)
 
--- the tables that the program holds before the set-up
+-- the tables that the program holds before the set-up; an accepted one leaves nothing of them
 unfoldable pub blank : Tables
 blank =
     lent (record { clock = record { 0 = 0 }; links = 0; bookings = 0 }) (replicate most_events 0) (replicate (most_events * most_links) 0) (replicate (most_bookings * place_size) 0)
@@ -58,9 +57,13 @@ blank =
 abbrev pub started : Opened → Running
 started o = record { links = o.answer.links; tables = o.tables; place = 1 }
 
--- 'On refusal it writes `desk refused N` and stops. Otherwise `desk links N`, then one line for each order'
+-- `desk links N`, then one line for each order
+abbrev pub opened_lines : Running → List ℕ → List ℕ
+opened_lines r bytes = line 0 (DeskLinks (length r.links)) [] ++ lines r (orders bytes)
+
+-- 'On refusal it writes `desk refused N` and stops', otherwise those lines
 abbrev pub output : Opened → List ℕ → List ℕ
-output o bytes = if_passed (eqb o.answer.refusal 0) (line 0 (DeskLinks (length o.answer.links)) [] ++ lines (started o) (orders bytes)) (line 0 (DeskRefused o.answer.refusal) [])
+output o bytes = if_passed (eqb o.answer.refusal 0) (opened_lines (started o) bytes) (line 0 (DeskRefused o.answer.refusal) [])
 
 -- the whole output
 unfoldable pub session : List ℕ → List ℕ

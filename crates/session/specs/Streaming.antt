@@ -3,8 +3,6 @@
 use Rattle.std.specs.Prelude.{◌≡◌, ⊤, List, [], ◌++◌, Bool, true, false, ℕ, ◌+◌, ◌/◌, ◌^◌, ◌≤◌, length, take, drop, Option, None, Some, IfSome}
 use Rattle.std.specs.Io.KnownBytes.{Appends, Consumes}
 use Rattle.layout.specs.Layout.{order_bytes}
-use Rattle.report.specs.declared.Report.TheVariants.{DeskLinks}
-use Rattle.report.specs.Line.{line}
 use Rattle.lent.specs.Lent.{tables_of}
 use Rattle.lent.specs.declared.Desk.{Desk}
 use Rattle.opening.specs.Opened.{first_size}
@@ -58,13 +56,9 @@ at_place desk place = record { links = desk.links.now; tables = tables_of desk; 
 abbrev pub running : Desk → Lines → Running
 running desk l = at_place desk l.place
 
--- the lines of a desk that was opened, and of the orders behind it
-abbrev pub opened_lines : Running → List ℕ → List ℕ
-opened_lines r bytes = line 0 (DeskLinks (length r.links)) [] ++ lines r (orders bytes)
-
--- what is due where the input goes on with these bytes
+-- what is due where these bytes have come and the input goes on with those
 abbrev pub due : Running → List ℕ → List ℕ → List ℕ
-due r come bytes = lines r (orders (come ++ bytes))
+due r came bytes = lines r (orders (came ++ bytes))
 
 abbrev pub due_if : Bool → (List ℕ → List ℕ) → List ℕ → List ℕ
 due_if true still bytes = still bytes

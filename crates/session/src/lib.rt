@@ -11,8 +11,8 @@ ghost use Rattle.lent.specs.Lent.{tables_of};
 ghost use Rattle.orders.specs.Ordered.{line_of};
 ghost use Rattle.report.specs.Line.{line};
 ghost use Rattle.opening.specs.Opened.{desk_report};
-ghost use Rattle.session.specs.Session.{answered, behind, lines as lines_of, after, whole_orders, last_piece, orders, blank, session};
-ghost use Rattle.session.specs.Streaming.{AppendsFront, Moves, Goes, pending, kept, running, at_place, opened_lines, due, due_if, most_orders, Taken, Long};
+ghost use Rattle.session.specs.Session.{answered, behind, lines as lines_of, after, whole_orders, last_piece, orders, opened_lines, blank, session};
+ghost use Rattle.session.specs.Streaming.{AppendsFront, Moves, Goes, pending, kept, running, at_place, due, due_if, most_orders, Taken, Long};
 
 mod reader;
 mod writer;
