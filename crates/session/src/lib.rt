@@ -3,7 +3,7 @@
 // are written, before more is read.
 #![tactic(auto)]
 
-ghost use Rattle.std.specs.Prelude.{◌≡◌, ◌+◌, ◌/◌, ◌≤◌, ◌<◌, ◌^◌, [], ◌∷◌, ◌++◌, true, false, length, IfSome, IfOk, OnOk, OnErr};
+ghost use Rattle.std.specs.Prelude.{◌≡◌, ◌⊎◌, ◌+◌, ◌/◌, ◌≤◌, ◌<◌, ◌^◌, [], ◌∷◌, ◌++◌, true, false, length, IfSome, IfOk, OnOk, OnErr};
 ghost use Rattle.std.specs.Io.KnownBytes.{Appends};
 ghost use Rattle.layout.specs.Layout.{order_bytes};
 ghost use Rattle.rules.specs.Tables.{Fine, lent};
@@ -21,10 +21,12 @@ use layout::{FIRST_BYTES, ORDER_BYTES};
 use lent::Desk;
 use opening::{open_desk, write_opened};
 use orders::run_order;
+pub use reader::Input;
 use reader::{Block, read_start};
 use report::MAX_LINE;
-use std::io::{self, ErrorKind, Read, Write};
+use std::io;
 use units::{BOOK_FIGURES, Bandwidth, EVENTS, FREE_FIGURES, Head, LINKS, Link, Minute, Refusal};
+pub use writer::Output;
 use writer::{Lines, write_whole};
 
 // The most pieces in which an input comes.
@@ -32,7 +34,7 @@ const MOST_TURNS: u64 = 1 << 51;
 
 // Runs one order, whose line is written behind the others.
 #[tactic(auto, using(crate::proofs::Fronts::front_more))]
-fn run_one<W: Write>(
+fn run_one<W: Output>(
     output: &mut W,
     lines: &mut Lines,
     desk: &mut Desk<'_>,
@@ -48,6 +50,7 @@ fn run_one<W: Write>(
         (pending lines.old ++ line_of lines.old.place (answered (running desk.old lines.old) order.now)) (pending lines.new)) }
     ensures front { OnErr result (AppendsFront (W.contents output.old) (W.contents output.new)
         (pending lines.old ++ line_of lines.old.place (answered (running desk.old lines.old) order.now))) }
+    ensures fails { OnErr result (W.failed output.new ≡ true) }
 {
     lines.make_room(output)?;
     lines.used = run_order(order, desk, &mut lines.bytes, lines.used, lines.place);
@@ -56,7 +59,7 @@ fn run_one<W: Write>(
 }
 
 // Runs orders, whose lines are written behind the others.
-fn run_orders<W: Write>(
+fn run_orders<W: Output>(
     output: &mut W,
     lines: &mut Lines,
     desk: &mut Desk<'_>,
@@ -73,6 +76,7 @@ fn run_orders<W: Write>(
         (pending lines.old ++ lines_of (running desk.old lines.old) orders.now) (pending lines.new)) }
     ensures front { OnErr result (AppendsFront (W.contents output.old) (W.contents output.new)
         (pending lines.old ++ lines_of (running desk.old lines.old) orders.now)) }
+    ensures fails { OnErr result (W.failed output.new ≡ true) }
 {
     for order in orders {
         run_one(output, lines, desk, order)?;
@@ -82,7 +86,7 @@ fn run_orders<W: Write>(
 
 // Runs the orders that are whole in these bytes and writes their lines out.
 #[tactic(auto, using(crate::proofs::Fronts::moves_out, crate::proofs::Fronts::front_after))]
-fn answer_whole<W: Write>(
+fn answer_whole<W: Output>(
     output: &mut W,
     lines: &mut Lines,
     desk: &mut Desk<'_>,
@@ -97,6 +101,7 @@ fn answer_whole<W: Write>(
     ensures counted { OnOk result (lines.new.place ≡ lines.old.place + length bytes.now / order_bytes) }
     ensures written { OnOk result (Appends (W.contents output.old) (W.contents output.new) (lines_of (running desk.old lines.old) (whole_orders bytes.now))) }
     ensures front { OnErr result (AppendsFront (W.contents output.old) (W.contents output.new) (lines_of (running desk.old lines.old) (whole_orders bytes.now))) }
+    ensures fails { OnErr result (W.failed output.new ≡ true) }
 {
     let (orders, _) = bytes.as_chunks::<ORDER_BYTES>();
     run_orders(output, lines, desk, orders)?;
@@ -104,7 +109,7 @@ fn answer_whole<W: Write>(
 }
 
 // Runs a last piece, where there is one, and writes its line out.
-fn answer_last<W: Write>(
+fn answer_last<W: Output>(
     output: &mut W,
     lines: &mut Lines,
     desk: &mut Desk<'_>,
@@ -116,6 +121,7 @@ fn answer_last<W: Write>(
     ensures fine { Fine desk.new.links.now (tables_of desk.new) }
     ensures written { OnOk result (Appends (W.contents output.old) (W.contents output.new) (lines_of (running desk.old lines.old) (last_piece piece.now))) }
     ensures front { OnErr result (AppendsFront (W.contents output.old) (W.contents output.new) (lines_of (running desk.old lines.old) (last_piece piece.now))) }
+    ensures fails { OnErr result (W.failed output.new ≡ true) }
 {
     if piece.is_empty() {
         return Ok(());
@@ -126,7 +132,7 @@ fn answer_last<W: Write>(
 
 // Reads once, runs the orders that are whole by then and writes their lines. Whether the input goes on; where it ends the last
 // piece is run.
-fn answer_some<R: Read, W: Write>(
+fn answer_some<R: Input, W: Output>(
     input: &mut R,
     output: &mut W,
     block: &mut Block,
@@ -146,6 +152,7 @@ fn answer_some<R: Read, W: Write>(
         (due (running desk.old lines.old) (kept block.old)) (due_if more (due (running desk.new lines.new) (kept block.new)))) }
     ensures front { OnErr result (IfSome (R.remaining input.old) (λ bytes. AppendsFront (W.contents output.old) (W.contents output.new)
         (due (running desk.old lines.old) (kept block.old) bytes))) }
+    ensures fails { OnErr result ((R.failed input.new ≡ true) ⊎ (W.failed output.new ≡ true)) }
 {
     let size = block.read_more(input)?;
     if size == block.kept {
@@ -159,7 +166,7 @@ fn answer_some<R: Read, W: Write>(
 
 // Runs all orders of an input. Whether it ended: a proved loop has to end, and nothing says that an input does, so the turns end at
 // a number of pieces in which no input comes.
-fn run_all<R: Read, W: Write>(
+fn run_all<R: Input, W: Output>(
     input: &mut R,
     output: &mut W,
     desk: &mut Desk<'_>,
@@ -168,6 +175,7 @@ fn run_all<R: Read, W: Write>(
     ensures long { IfOk result (λ ended. ended ≡ false → Long (R.remaining input.old)) }
     ensures whole { IfOk result (λ ended. ended ≡ true → IfSome (R.remaining input.old) (λ bytes. Appends (W.contents output.old) (W.contents output.new) (lines_of (at_place desk.old 1) (orders bytes)))) }
     ensures front { IfSome (R.remaining input.old) (λ bytes. AppendsFront (W.contents output.old) (W.contents output.new) (lines_of (at_place desk.old 1) (orders bytes))) }
+    ensures fails { OnErr result ((R.failed input.new ≡ true) ⊎ (W.failed output.new ≡ true)) }
 {
     let mut block = Block::new();
     let mut lines = Lines::new();
@@ -180,9 +188,10 @@ fn run_all<R: Read, W: Write>(
 }
 
 // Writes the desk's own line.
-fn write_start<W: Write>(output: &mut W, opened: Result<u32, Refusal>) -> io::Result<()>
+fn write_start<W: Output>(output: &mut W, opened: Result<u32, Refusal>) -> io::Result<()>
     ensures whole { OnOk result (Appends (W.contents output.old) (W.contents output.new) (line 0 (desk_report opened) [])) }
     ensures front { AppendsFront (W.contents output.old) (W.contents output.new) (line 0 (desk_report opened) []) }
+    ensures fails { OnErr result (W.failed output.new ≡ true) }
 {
     let mut line = [0u8; MAX_LINE];
     let used = write_opened(&mut line, opened);
@@ -190,7 +199,7 @@ fn write_start<W: Write>(output: &mut W, opened: Result<u32, Refusal>) -> io::Re
 }
 
 // Writes the line of a desk that was opened, and runs all orders.
-fn run_opened<R: Read, W: Write>(
+fn run_opened<R: Input, W: Output>(
     input: &mut R,
     output: &mut W,
     desk: &mut Desk<'_>,
@@ -199,13 +208,14 @@ fn run_opened<R: Read, W: Write>(
     ensures long { IfOk result (λ ended. ended ≡ false → Long (R.remaining input.old)) }
     ensures whole { IfOk result (λ ended. ended ≡ true → IfSome (R.remaining input.old) (λ bytes. Appends (W.contents output.old) (W.contents output.new) (opened_lines (at_place desk.old 1) bytes))) }
     ensures front { IfSome (R.remaining input.old) (λ bytes. AppendsFront (W.contents output.old) (W.contents output.new) (opened_lines (at_place desk.old 1) bytes)) }
+    ensures fails { OnErr result ((R.failed input.new ≡ true) ⊎ (W.failed output.new ≡ true)) }
 {
     write_start(output, Ok(desk.head.links))?;
     run_all(input, output, desk)
 }
 
 // Runs a session on blank tables and places of links.
-fn run_on<R: Read, W: Write>(
+fn run_on<R: Input, W: Output>(
     input: &mut R,
     output: &mut W,
     places: &mut [Link; LINKS],
@@ -218,6 +228,7 @@ fn run_on<R: Read, W: Write>(
     ensures long { IfOk result (λ ended. ended ≡ false → IfSome (R.remaining input.old) (λ bytes. 2 ^ 51 ≤ length bytes)) }
     ensures whole { IfOk result (λ ended. ended ≡ true → IfSome (R.remaining input.old) (λ bytes. Appends (W.contents output.old) (W.contents output.new) (session bytes))) }
     ensures front { IfSome (R.remaining input.old) (λ bytes. AppendsFront (W.contents output.old) (W.contents output.new) (session bytes)) }
+    ensures fails { OnErr result ((R.failed input.new ≡ true) ⊎ (W.failed output.new ≡ true)) }
 {
     let mut first = [0u8; FIRST_BYTES];
     let size = read_start(input, &mut first)?;
@@ -242,10 +253,11 @@ fn run_on<R: Read, W: Write>(
 // Runs a session: reads it from the input and writes its whole output, and answers whether it ended; only an input of 2^51 bytes
 // does not. Where a read or a write fails, some of the output is written, from the first byte on.
 #[tactic(auto, unfolding(crate::specs::Session::blank))]
-pub fn run_session<R: Read, W: Write>(input: &mut R, output: &mut W) -> io::Result<bool>
+pub fn run_session<R: Input, W: Output>(input: &mut R, output: &mut W) -> io::Result<bool>
     ensures long { IfOk result (λ ended. ended ≡ false → IfSome (R.remaining input.old) (λ bytes. 2 ^ 51 ≤ length bytes)) }
     ensures whole { IfOk result (λ ended. ended ≡ true → IfSome (R.remaining input.old) (λ bytes. Appends (W.contents output.old) (W.contents output.new) (session bytes))) }
     ensures front { IfSome (R.remaining input.old) (λ bytes. AppendsFront (W.contents output.old) (W.contents output.new) (session bytes)) }
+    ensures fails { OnErr result ((R.failed input.new ≡ true) ⊎ (W.failed output.new ≡ true)) }
 {
     let mut head = Head {
         clock: Minute(0),

@@ -2,23 +2,42 @@
 
 ghost use Rattle.std.specs.Prelude.{◌≡◌, ◌≤◌, ◌<◌, length, take, IfOk};
 ghost use Rattle.std.specs.Io.{ReadsAtMost};
-ghost use Rattle.std.specs.Io.KnownBytes.{Consumes, IsAtEnd};
+ghost use Rattle.std.specs.Prelude.{Bool, true, OnErr};
+ghost use Rattle.std.specs.Io.KnownBytes.{Consumes, IsAtEnd, ReadConsumes};
 ghost use Rattle.layout.specs.Layout.{order_bytes};
 ghost use Rattle.session.specs.Session.{cut_short};
 ghost use Rattle.session.specs.Streaming.{ComesBehind, TakesStart, kept, block_bytes};
 
 use layout::{FIRST_BYTES, LEAD_BYTES, ORDER_BYTES};
 use opening::records_size;
-use std::io::{self, ErrorKind, Read};
+use std::io::{self, ErrorKind, Read, Stdin};
+
+// A reader, and whether a read of it may have failed. Where nothing is known of that, one may have at any time; bytes in memory have
+// none that does.
+pub trait Input: Read {
+    ghost failed: { Self → Bool } = { λ _. true };
+
+    fn read_once(&mut self, buffer: &mut [u8]) -> io::Result<usize>
+        ensures bound { ReadsAtMost result buffer.new }
+        ensures bytes { ReadConsumes (Self.remaining self.old) (Self.remaining self.new) result buffer.new }
+        ensures fails { OnErr result (failed self.new ≡ true) };
+}
+
+impl Input for Stdin {
+    fn read_once(&mut self, buffer: &mut [u8]) -> io::Result<usize> {
+        self.read(buffer)
+    }
+}
 
 // Reads once, and answers how many bytes came; none only at the input's end.
-pub(crate) fn read_some<R: Read>(input: &mut R, buffer: &mut [u8]) -> io::Result<usize>
+pub(crate) fn read_some<R: Input>(input: &mut R, buffer: &mut [u8]) -> io::Result<usize>
     ensures bound { ReadsAtMost result buffer.new }
     ensures came { IfOk result (λ n. Consumes (R.remaining input.old) (R.remaining input.new) (take n buffer.new)) }
     ensures end { IfOk result (λ n. n ≡ 0 → 0 < length buffer.old → IsAtEnd (R.remaining input.new)) }
+    ensures fails { OnErr result (R.failed input.new ≡ true) }
 {
     for _ in 0..u64::MAX {
-        match input.read(buffer) {
+        match input.read_once(buffer) {
             Err(error) if error.kind() == ErrorKind::Interrupted => {}
             read => return read,
         }
@@ -27,10 +46,11 @@ pub(crate) fn read_some<R: Read>(input: &mut R, buffer: &mut [u8]) -> io::Result
 }
 
 // Reads until the buffer is full or the input ends, and answers how many bytes stand at its start then.
-pub(crate) fn read_full<R: Read>(input: &mut R, buffer: &mut [u8]) -> io::Result<usize>
+pub(crate) fn read_full<R: Input>(input: &mut R, buffer: &mut [u8]) -> io::Result<usize>
     ensures bound { ReadsAtMost result buffer.new }
     ensures came { IfOk result (λ n. Consumes (R.remaining input.old) (R.remaining input.new) (take n buffer.new)) }
     ensures end { IfOk result (λ n. n < length buffer.old → IsAtEnd (R.remaining input.new)) }
+    ensures fails { OnErr result (R.failed input.new ≡ true) }
 {
     let mut done = 0;
     while done < buffer.len() {
@@ -65,12 +85,13 @@ impl Block {
 
     // Reads once, behind the bytes that are kept, and answers how many stand in the block then; no more only at the input's end.
     #[tactic(auto, using(crate::proofs::Came::came_behind))]
-    pub(crate) fn read_more<R: Read>(&mut self, input: &mut R) -> io::Result<usize>
+    pub(crate) fn read_more<R: Input>(&mut self, input: &mut R) -> io::Result<usize>
         requires { self.old.kept < order_bytes }
         ensures kept { self.new.kept ≡ self.old.kept }
         ensures within { IfOk result (λ size. size ≤ block_bytes) }
         ensures came { IfOk result (λ size. ComesBehind (R.remaining input.old) (R.remaining input.new) (kept self.old) (take size self.new.bytes)) }
         ensures end { IfOk result (λ size. size ≡ self.old.kept → IsAtEnd (R.remaining input.new)) }
+        ensures fails { OnErr result (R.failed input.new ≡ true) }
     {
         let came = read_some(input, &mut self.bytes[self.kept..])?;
         Ok(self.kept + came)
@@ -90,9 +111,13 @@ impl Block {
 
 // Reads the first byte of a session and as many link records as it counts; answers how many bytes came. A count out of range has no
 // records to wait for.
-pub(crate) fn read_start<R: Read>(input: &mut R, first: &mut [u8; FIRST_BYTES]) -> io::Result<usize>
+pub(crate) fn read_start<R: Input>(
+    input: &mut R,
+    first: &mut [u8; FIRST_BYTES],
+) -> io::Result<usize>
     ensures bound { ReadsAtMost result first.new }
     ensures start { IfOk result (λ n. TakesStart (R.remaining input.old) (R.remaining input.new) (take n first.new)) }
+    ensures fails { OnErr result (R.failed input.new ≡ true) }
 {
     if read_full(input, &mut first[..LEAD_BYTES])? == 0 {
         return Ok(0);

@@ -1,23 +1,46 @@
 // Lines that are to be written, and writing them. A write that a signal interrupts is tried again.
 
-ghost use Rattle.std.specs.Prelude.{◌≡◌, ◌+◌, ◌≤◌, ◌++◌, [], length, OnOk};
+ghost use Rattle.std.specs.Prelude.{◌≡◌, ◌+◌, ◌≤◌, ◌<◌, Bool, true, length, IfOk, OnOk, OnErr};
 ghost use Rattle.std.specs.Io.{WritesAtMost};
 ghost use Rattle.std.specs.Io.KnownBytes.{Appends, WriteAppends};
 ghost use Rattle.report.specs.Line.{max_line};
 ghost use Rattle.session.specs.Streaming.{AppendsFront, Moves, pending};
 
 use report::MAX_LINE;
-use std::io::{self, ErrorKind, Write};
+use std::io::{self, ErrorKind, Stdout, Write};
 
 // The bytes of the buffer of lines.
 const LINES_BYTES: usize = 65_536;
 
+// A writer, and whether a write of it may have failed. Where nothing is known of that, one may have at any time; a list in memory has
+// none that does.
+pub trait Output: Write {
+    ghost failed: { Self → Bool } = { λ _. true };
+
+    fn write_once(&mut self, bytes: &[u8]) -> io::Result<usize>
+        ensures bound { WritesAtMost result bytes.now }
+        ensures bytes { WriteAppends (Self.contents self.old) (Self.contents self.new) result bytes.now }
+        ensures stays { failed self.old ≡ true → failed self.new ≡ true }
+        ensures none { IfOk result (λ n. n ≡ 0 → 0 < length bytes.now → failed self.new ≡ true) }
+        ensures fails { OnErr result (failed self.new ≡ true) };
+}
+
+impl Output for Stdout {
+    fn write_once(&mut self, bytes: &[u8]) -> io::Result<usize> {
+        self.write(bytes)
+    }
+}
+
 // Writes some of the bytes, from the first on, and answers how many; none where a signal interrupts it.
-fn write_some<W: Write>(output: &mut W, bytes: &[u8]) -> io::Result<usize>
+fn write_some<W: Output>(output: &mut W, bytes: &[u8]) -> io::Result<usize>
+    requires { 0 < length bytes.now }
     ensures bound { WritesAtMost result bytes.now }
     ensures written { WriteAppends (W.contents output.old) (W.contents output.new) result bytes.now }
+    ensures stays { W.failed output.old ≡ true → W.failed output.new ≡ true }
+    ensures none { IfOk result (λ n. n ≡ 0 → W.failed output.new ≡ true) }
+    ensures fails { OnErr result (W.failed output.new ≡ true) }
 {
-    match output.write(bytes) {
+    match output.write_once(bytes) {
         Ok(0) => Err(io::Error::from(ErrorKind::WriteZero)),
         Err(error) if error.kind() == ErrorKind::Interrupted => Ok(0),
         written => written,
@@ -25,9 +48,10 @@ fn write_some<W: Write>(output: &mut W, bytes: &[u8]) -> io::Result<usize>
 }
 
 // Writes the bytes: all of them, or where a write fails some, from the first on.
-pub(crate) fn write_whole<W: Write>(output: &mut W, bytes: &[u8]) -> io::Result<()>
+pub(crate) fn write_whole<W: Output>(output: &mut W, bytes: &[u8]) -> io::Result<()>
     ensures whole { OnOk result (Appends (W.contents output.old) (W.contents output.new) bytes.now) }
     ensures front { AppendsFront (W.contents output.old) (W.contents output.new) bytes.now }
+    ensures fails { OnErr result (W.failed output.new ≡ true) }
 {
     let mut done = 0;
     for _ in 0..u64::MAX {
@@ -61,13 +85,14 @@ impl Lines {
     }
 
     // Writes the lines out and begins the buffer again.
-    pub(crate) fn write_out<W: Write>(&mut self, output: &mut W) -> io::Result<()>
+    pub(crate) fn write_out<W: Output>(&mut self, output: &mut W) -> io::Result<()>
         requires { self.old.used ≤ length self.old.bytes }
         ensures place { self.new.place ≡ self.old.place }
         ensures none { OnOk result (self.new.used ≡ 0) }
         ensures room { OnOk result (self.new.used + max_line ≤ length self.new.bytes) }
         ensures whole { OnOk result (Appends (W.contents output.old) (W.contents output.new) (pending self.old)) }
         ensures front { AppendsFront (W.contents output.old) (W.contents output.new) (pending self.old) }
+        ensures fails { OnErr result (W.failed output.new ≡ true) }
     {
         write_whole(output, &self.bytes[..self.used])?;
         self.used = 0;
@@ -75,12 +100,13 @@ impl Lines {
     }
 
     // Writes the lines out where another might not fit behind them.
-    pub(crate) fn make_room<W: Write>(&mut self, output: &mut W) -> io::Result<()>
+    pub(crate) fn make_room<W: Output>(&mut self, output: &mut W) -> io::Result<()>
         requires { self.old.used ≤ length self.old.bytes }
         ensures place { self.new.place ≡ self.old.place }
         ensures room { OnOk result (self.new.used + max_line ≤ length self.new.bytes) }
         ensures moves { OnOk result (Moves (W.contents output.old) (W.contents output.new) (pending self.old) (pending self.new)) }
         ensures front { AppendsFront (W.contents output.old) (W.contents output.new) (pending self.old) }
+        ensures fails { OnErr result (W.failed output.new ≡ true) }
     {
         if self.bytes.len() - self.used < MAX_LINE {
             self.write_out(output)?;

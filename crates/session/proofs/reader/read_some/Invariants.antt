@@ -1,7 +1,10 @@
 -- The buffer keeps its length, and a failed read takes nothing.
-use Rattle.std.proofs.Common.{◌≡◌, length}
+use Rattle.std.proofs.Common.{◌≡◌, ◌<◌, true, length}
 use Rattle.std.specs.Io.KnownBytes.{Keeps}
 use Rattle.session.proofs.reader.read_some.Given as goal
 
 abbrev pub invariant-loop : goal.invariant-loop
-invariant-loop g l = (length l.buffer ≡ length l.initial.buffer) × Keeps (g.R.Read.remaining l.initial.input) (g.R.Read.remaining l.input)
+invariant-loop g l =
+    (length l.buffer ≡ length l.initial.buffer)
+    × Keeps (g.R.Read.remaining l.initial.input) (g.R.Read.remaining l.input)
+    × (0 < l.counter → g.R.Input.failed l.input ≡ true)
