@@ -4,14 +4,14 @@ use std::io::{PipeReader, Read};
 use std::thread::sleep;
 use std::time::Duration;
 
-use desk_tests::calls::{pick, style, Style};
+use desk_tests::calls::{pick, Style};
 use desk_tests::lines::{output, ORDER_BYTES};
 use desk_tests::program::{file, first_bytes, narrow_pipe, program, same, told, written_in_pieces, Run, BLOCK_BYTES};
-use desk_tests::sessions::orders_file;
+use desk_tests::sessions::session;
 use support::{Random, Seed};
 
 const SEED: u64 = 0xDE5_4000;
-const SESSIONS: u64 = 60;
+const SESSIONS: u64 = 200;
 /// Long enough that the program mostly reads a piece alone.
 const PAUSE: Duration = Duration::from_micros(200);
 const LONG_PAUSE: Duration = Duration::from_millis(20);
@@ -45,16 +45,13 @@ fn pieces_of_about_a_block() {
     }
 }
 
-/// The input in pieces, most of them of about one size, and sometimes with 1 to 15 bytes of an order behind.
-fn random_pieces(random: &mut Random, input: &mut Vec<u8>) -> Vec<Vec<u8>> {
-    if random.once_in(3) {
-        input.extend(vec![0x20; random.within(1, 15) as usize]);
-    }
-    let most = *pick(random, &[20, 100, 1_000, 10_000]);
-    let mut rest = &input[..];
+/// The input in pieces of any sizes, some of which are whole orders.
+fn random_pieces(random: &mut Random, input: &[u8]) -> Vec<Vec<u8>> {
+    let most = *pick(random, &[20, 100, 1_000]);
+    let mut rest = input;
     let mut pieces = Vec::new();
     while !rest.is_empty() {
-        let size = if random.once_in(4) { 16 } else { random.within(1, most) as usize };
+        let size = if random.once_in(4) { ORDER_BYTES } else { random.within(1, most) as usize };
         let (piece, behind) = rest.split_at(size.min(rest.len()));
         pieces.push(piece.to_vec());
         rest = behind;
@@ -66,10 +63,8 @@ fn random_pieces(random: &mut Random, input: &mut Vec<u8>) -> Vec<Vec<u8>> {
 fn random_sessions_in_random_pieces() {
     for seed in SEED..SEED + SESSIONS {
         let _seed = Seed(seed);
-        let random = &mut Random::new(seed);
-        let (style, orders) = (style(random), random.within(0, 300));
-        let mut input = orders_file(random, style, orders);
-        let pieces = random_pieces(random, &mut input);
+        let input = session(seed);
+        let pieces = random_pieces(&mut Random::new(seed), &input);
         same(&written_in_pieces(pieces, PAUSE), &output(&input));
     }
 }
@@ -82,12 +77,11 @@ fn two_pieces_cut_at_a_border() {
     let first = first_bytes(&input);
     let blocks = [BLOCK_BYTES, 2 * BLOCK_BYTES, first + BLOCK_BYTES, first + 2 * BLOCK_BYTES];
     for border in [1, first, first + ORDER_BYTES].into_iter().chain(blocks) {
-        for before in [17, 16, 15, 1, 0] {
-            for cut in [border.saturating_sub(before), border + before] {
-                println!("cut at {cut}");
-                let pieces = vec![input[..cut].to_vec(), input[cut..].to_vec()];
-                same(&written_in_pieces(pieces, LONG_PAUSE), &due);
-            }
+        for behind in [-17, -16, -15, -1, 0, 1, 15, 16, 17] {
+            let cut = border.saturating_add_signed(behind);
+            println!("cut at {cut}");
+            let pieces = vec![input[..cut].to_vec(), input[cut..].to_vec()];
+            same(&written_in_pieces(pieces, LONG_PAUSE), &due);
         }
     }
 }
