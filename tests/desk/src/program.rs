@@ -96,11 +96,11 @@ impl Run {
     }
 
     /// Feeds the pieces to the end of the input, from beside and with a pause behind each.
-    pub fn feed<P: AsRef<[u8]> + Send + 'static>(&mut self, pieces: Vec<P>, pause: Duration) {
+    pub fn feed(&mut self, pieces: Vec<Vec<u8>>, pause: Duration) {
         let mut stdin = self.stdin.take().expect("an open standard input");
         thread::spawn(move || {
             for piece in pieces {
-                if stdin.write_all(piece.as_ref()).is_err() {
+                if stdin.write_all(&piece).is_err() {
                     return;
                 }
                 thread::sleep(pause);
@@ -199,7 +199,7 @@ pub fn written(input: &[u8]) -> String {
 }
 
 /// What the program writes for an input that comes in pieces, with a pause behind each.
-pub fn written_in_pieces<P: AsRef<[u8]> + Send + 'static>(pieces: Vec<P>, pause: Duration) -> String {
+pub fn written_in_pieces(pieces: Vec<Vec<u8>>, pause: Duration) -> String {
     let mut run = Run::piped();
     run.feed(pieces, pause);
     run.end().well()
