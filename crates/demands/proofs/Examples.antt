@@ -10,7 +10,7 @@ use lib.Dec.{lit<, lit≤}
 use lib.ListN.{length}
 use borrow.Author.Tests.{le-leb, eq-eqb}
 use Rattle.units.specs.declared.Request.{Request}
-use Rattle.units.specs.Lists.{member, sum, all, select, All}
+use Rattle.units.specs.Lists.{member, sum, select, All}
 use Rattle.units.specs.Search.{first_from, all_from, any_below}
 use Rattle.path_search.specs.Paths.{reaches, lowest, fewest, route}
 use Rattle.choice.specs.Earliest.{can_start, earliest}

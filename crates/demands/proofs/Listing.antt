@@ -9,7 +9,7 @@ use native.Mathlib.Omega.{arith}
 use Rattle.units.specs.declared.Link.{Link}
 use Rattle.units.specs.declared.Request.{Request}
 use Rattle.units.specs.Limits.{list_size}
-use Rattle.units.specs.Lists.{member, sum, all, select}
+use Rattle.units.specs.Lists.{member, sum, select}
 use Rattle.units.specs.Search.{first_from, all_from, any_below}
 use Rattle.units.proofs.Tests.{Tells}
 use Rattle.units.proofs.Parts.{all_map}

@@ -10,7 +10,7 @@ use lib.Dec.{lit<, lit≤, eqb, ltb}
 use lib.ListN.{length}
 use Rattle.units.specs.declared.Request.{Request}
 use Rattle.units.specs.Limits.{list_size}
-use Rattle.units.specs.Lists.{member, sum, count_from, equal, rising, all, select}
+use Rattle.units.specs.Lists.{member, sum, count_from, equal, rising, select}
 use Rattle.units.specs.Search.{first_from, all_from, any_below}
 use Rattle.timeline.specs.Events.{insert_rising, later, passed, row_at}
 use Rattle.path_search.specs.Paths.{reaches, lowest, fewest, route, goes_on}

@@ -7,7 +7,7 @@
 ghost use Rattle.std.specs.Prelude.{◌≡◌, length};
 ghost use Rattle.rules.specs.Calls.{Ask, set_up, ask};
 ghost use Rattle.rules.specs.Tables.{lent};
-ghost use Rattle.desk_core.specs.Lent.{choice_answer, listed_answer, list_after, shown_answer, refusal_answer, tables_after};
+ghost use Rattle.sound_calls.specs.Lent.{choice_answer, listed_answer, list_after, shown_answer, refusal_answer, tables_after};
 
 use choice::ChoiceRecord;
 use desk_core::{

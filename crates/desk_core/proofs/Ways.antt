@@ -1,5 +1,5 @@
--- The ways out of a call on lent tables: the tables' checks refuse it, its own checks do, or it goes on.
-use mathlib.Core.Path.{◌≡◌, sym, ◌∙◌, ap₂, subst}
+-- The tables' checks of a call, as they are found on the tables that were read: they refuse the call, or the tables are fine.
+use mathlib.Core.Path.{◌≡◌, refl, sym, ◌∙◌, ap₂}
 use mathlib.Core.List.{List}
 use mathlib.Core.Bool.{true}
 use Prim.Native.Nat.{ℕ}
@@ -7,45 +7,43 @@ use Rattle.units.specs.declared.Link.{Link}
 use Rattle.units.specs.declared.Refusal.{Refusal}
 use Rattle.units.specs.Refusals.{number}
 use Rattle.units.proofs.Refusals.{numbered}
-use Rattle.rules.specs.Calls.{Ask, Answer, ask, list_fits, first_refusal, own_checks, result}
-use Rattle.rules.specs.Tables.{Tables, held, lent_checks, Fine}
-use Rattle.rules.specs.Desk.{left_by, outcome}
-use Rattle.rules.proofs.Checks.{Passed}
-use Rattle.rules.proofs.Exits.{refused_with, stopped, all_passed, accepted}
+use Rattle.rules.specs.Calls.{Ask, ask, refuse, list_fits, first_refusal}
+use Rattle.rules.specs.Tables.{Tables, lent_checks, Fine}
+use Rattle.rules.specs.Desk.{outcome}
+use Rattle.rules.proofs.Exits.{refused_with}
 use Rattle.refusals.proofs.TableChecks.{fine, list_fine, tables_refused}
+use Rattle.sound_calls.specs.Lent.{choice_shown, shown, listed, choice_answer, shown_answer, listed_answer, list_after, refusal_answer, tables_after}
+use Rattle.sound_calls.proofs.Handed.{handed_number, handed_grant, handed_shown, handed_listing, handed_tables}
 
--- what is found of a desk's tables as they are read holds of the desk
-pub found : {l links : List Link} {s t : Tables} {k : ℕ} → l ≡ links → s ≡ t → (check : List Link → Tables → ℕ) → k ≡ check l s → k ≡ check links t
-found a b check e = e ∙ ap₂ check a b
-
--- and what is asked of the desk is asked of them
-pub moved : {l links : List Link} {s t : Tables} → l ≡ links → s ≡ t → (P : List Link → Tables → Type 0) → P links t → P l s
-moved {l} {links} {s} {t} a b P h = subst (λ x. P x s) (sym a) (subst (λ x. P links x) (sym b) h)
-
--- the number of the tables' checks, and of the call's own
+-- the number of the tables' checks
 abbrev pub by_tables : Ask → List Link → Tables → ℕ
 by_tables a links t = first_refusal (lent_checks links t (list_fits a))
 
-abbrev pub by_call : Ask → List Link → Tables → ℕ
-by_call a links t = first_refusal (own_checks links (held t) a)
+-- passed: a lent list fits
+pub list_right : (a : Ask) (links : List Link) (t : Tables) → 0 ≡ by_tables a links t → list_fits a ≡ true
+list_right a links t passes = list_fine links t (list_fits a) (sym passes)
 
-module _ (links : List Link) (t : Tables) (a : Ask) where
-  pub tables_stop : (r : Refusal) → number r ≡ first_refusal (lent_checks links t (list_fits a)) → outcome links t (ask a) ≡ refused_with (number r) t
-  tables_stop r e = tables_refused links t a (number r) e (numbered r)
+module _ (a : Ask) {l links : List Link} {s t : Tables} (same_links : l ≡ links) (same_tables : s ≡ t) where
+  -- passed: the tables are fine
+  pub are_fine : 0 ≡ by_tables a l s → Fine links t
+  are_fine passes = fine links t (list_fits a) (sym (passes ∙ ap₂ (by_tables a) same_links same_tables))
 
-  module _ (right : 0 ≡ first_refusal (lent_checks links t (list_fits a))) where
-    pub is_fine : Fine links t
-    is_fine = fine links t (list_fits a) (sym right)
+  -- not passed: the refusal is handed out, and everything is left as it came
+  module _ (r : Refusal) (stops : number r ≡ by_tables a l s) where
+    refused_outcome : outcome links t (ask a) ≡ refused_with (number r) t
+    refused_outcome = tables_refused links t a (number r) (stops ∙ ap₂ (by_tables a) same_links same_tables) (numbered r)
 
-    pub fits : list_fits a ≡ true
-    fits = list_fine links t (list_fits a) (sym right)
+    pub refused_number : number r ≡ refusal_answer links t (ask a)
+    refused_number = handed_number links t (ask a) _ refused_outcome
 
-    pub call_stops : (r : Refusal) → number r ≡ first_refusal (own_checks links (held t) a) → outcome links t (ask a) ≡ refused_with (number r) t
-    call_stops r e = stopped links t a is_fine.is_sized fits is_fine.is_sound (number r) (sym e) (numbered r)
+    pub refused_grant : choice_shown (refuse (number r)) ≡ choice_answer links t (ask a)
+    refused_grant = handed_grant links t (ask a) _ refused_outcome
 
-    module _ (passes : 0 ≡ first_refusal (own_checks links (held t) a)) where
-      pub passed : Passed (own_checks links (held t) a)
-      passed = all_passed links t a is_fine.is_sized fits is_fine.is_sound (sym passes)
+    pub refused_shown : shown (refuse (number r)) ≡ shown_answer links t (ask a)
+    refused_shown = handed_shown links t (ask a) _ refused_outcome
 
-      pub goes_on : (r : Answer) → result links (held t) a ≡ r → outcome links t (ask a) ≡ record { answer = r; tables = left_by links t (ask a) r }
-      goes_on = accepted links t a is_fine.is_sized fits is_fine.is_sound (sym passes)
+    pub refused_listing : (old : List ℕ) → (listed (refuse (number r)) ≡ listed_answer links t (ask a)) × (old ≡ list_after links t (ask a) old)
+    refused_listing old = handed_listing links t (ask a) _ refused_outcome old refl refl
+
+    pub refused_tables : t ≡ tables_after links t (ask a)
+    refused_tables = handed_tables links t (ask a) _ refused_outcome refl

@@ -1,1 +1,3 @@
 pub mod Records
+pub mod First
+pub mod Fine

@@ -1,8 +1,8 @@
 -- Document 01's start of a session: the first byte, the links, then the set-up, each check in its order.
-use Rattle.std.specs.Prelude.{List, [], map, Bool, ℕ, ◌+◌, ◌*◌, leb, eqb, length, get_or, take, drop, Result, Ok, Err, is_err}
+use Rattle.std.specs.Prelude.{List, [], map, Bool, ℕ, ◌+◌, ◌*◌, leb, eqb, length, get_or, take, drop, Option, None, Some, Result, Ok, Err, is_err}
 use Rattle.units.specs.declared.Link.{Link}
 use Rattle.units.specs.Limits.{most_links}
-use Rattle.units.specs.Lists.{within, count_from}
+use Rattle.units.specs.Lists.{within, if_so, count_from}
 use Rattle.units.specs.Search as search
 use Rattle.units.specs.declared.Refusal.{Refusal}
 use Rattle.layout.specs.Layout.{lead_bytes, link_bytes}
@@ -39,6 +39,15 @@ links_in bytes n = map (λ i. (link_values (link_record bytes i)).link) (count_f
 -- 'one byte with the count of links'
 abbrev pub first_byte : List ℕ → ℕ
 first_byte bytes = get_or bytes 0 0
+
+-- how many bytes of link records a first byte counts; none where its count is out of range
+abbrev pub records_size : ℕ → Option ℕ
+records_size count = if_passed (within 1 most_links count) (Some (count * link_bytes)) None
+
+-- 'one byte with the count of links, the links, then orders': how many bytes stand before the orders. A count out of range has no links
+-- behind it
+unfoldable pub first_size : List ℕ → ℕ
+first_size bytes = lead_bytes + if_so (within 1 most_links (first_byte bytes)) (first_byte bytes * link_bytes)
 
 -- 'a first byte (12), its range (1), enough bytes for the links (12), each record in turn (11)'; 0 if all are passed
 unfoldable pub bytes_refusal : List ℕ → ℕ

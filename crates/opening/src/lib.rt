@@ -5,10 +5,10 @@
 ghost use Rattle.std.specs.Prelude.{◌≡◌, [], ◌+◌, ◌*◌, ◌≤◌, length, IfOk};
 ghost use Rattle.units.specs.Refusals.{number_of};
 ghost use Rattle.layout.specs.Layout.{lead_bytes, link_bytes};
-ghost use Rattle.rules.specs.Tables.{lent};
+ghost use Rattle.rules.specs.Tables.{lent, Fine};
 ghost use Rattle.report.specs.Line.{line, max_line};
 ghost use Rattle.report.specs.Written.{Wrote};
-ghost use Rattle.opening.specs.Opened.{links_refusal, links_in, first_byte, bytes_refusal, opened, desk_report};
+ghost use Rattle.opening.specs.Opened.{links_refusal, links_in, first_byte, records_size, bytes_refusal, opened, desk_report};
 
 use desk_core::set_up;
 use layout::{LEAD_BYTES, LINK_BYTES};
@@ -30,6 +30,17 @@ fn read_links(bytes: &[u8], links: &mut [Link]) -> Result<(), Refusal>
     Ok(())
 }
 
+// How many bytes of link records a first byte counts: none where its count is out of range.
+pub fn records_size(count: u8) -> Option<usize>
+    ensures { result ≡ records_size count }
+{
+    let count = usize::from(count);
+    if !(1..=LINKS).contains(&count) {
+        return None;
+    }
+    Some(count * LINK_BYTES)
+}
+
 // The links of a session's first bytes: 12 without a first byte, 1 for its range, 12 for too few bytes, 11 for a record.
 #[tactic(auto, unfolding(crate::specs::Opened::bytes_refusal))]
 fn session_links<'a>(bytes: &[u8], places: &'a mut [Link; LINKS]) -> Result<&'a [Link], Refusal>
@@ -39,21 +50,20 @@ fn session_links<'a>(bytes: &[u8], places: &'a mut [Link; LINKS]) -> Result<&'a 
     let Some(&first) = bytes.first() else {
         return Err(Refusal::BadLength);
     };
-    let count = usize::from(first);
-    if !(1..=LINKS).contains(&count) {
+    let Some(size) = records_size(first) else {
         return Err(Refusal::BadSize);
-    }
-    if bytes.len() < LEAD_BYTES + count * LINK_BYTES {
+    };
+    if bytes.len() < LEAD_BYTES + size {
         return Err(Refusal::BadLength);
     }
-    let links = &mut places[..count];
+    let links = &mut places[..usize::from(first)];
     read_links(bytes, links)?;
     Ok(links)
 }
 
 // Opens a desk from the first bytes of a session and answers its links, which stand in the lent places: the refusals of the
 // links, then those of set-up.
-#[tactic(auto, unfolding(crate::specs::Opened::opened, desk_core::specs::Lent::refusal_answer, desk_core::specs::Lent::tables_after))]
+#[tactic(auto, unfolding(crate::specs::Opened::opened, sound_calls::specs::Lent::refusal_answer, sound_calls::specs::Lent::tables_after))]
 pub fn open_desk<'a>(
     bytes: &[u8],
     places: &'a mut [Link; LINKS],
@@ -64,6 +74,7 @@ pub fn open_desk<'a>(
 ) -> Result<&'a [Link], Refusal>
     ensures refusal { number_of result ≡ (opened (lent head.old events.old free.old book.old) bytes.now).answer.refusal }
     ensures links { IfOk result (λ links. links.now ≡ (opened (lent head.old events.old free.old book.old) bytes.now).answer.links) }
+    ensures fine { IfOk result (λ links. Fine links.now (lent head.new events.new free.new book.new)) }
     ensures tables { lent head.new events.new free.new book.new ≡ (opened (lent head.old events.old free.old book.old) bytes.now).tables }
 {
     let links = session_links(bytes, places)?;

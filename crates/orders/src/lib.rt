@@ -1,19 +1,21 @@
 // One order's bytes and a desk to the order's answer and its line. The program `run_orders` calls `run_order`, and
-// decides nothing itself. Every input is answered; an order that is refused changes nothing.
+// decides nothing itself. The tables are sound, and stay so, hence no order checks them. Every input is answered; an order that
+// is refused changes nothing.
 #![tactic(auto)]
 
 ghost use Rattle.std.specs.Prelude.{◌≡◌, ◌+◌, ◌≤◌, length, Err};
+ghost use Rattle.rules.specs.Tables.{Fine};
 ghost use Rattle.lent.specs.Lent.{SameLoans, tables_of};
 ghost use Rattle.report.specs.Line.{max_line};
 ghost use Rattle.report.specs.Written.{Wrote};
 ghost use Rattle.orders.specs.Ordered.{told, ordered, line_of};
 
-use desk_core::{cancel, make_booking, move_clock, offer};
 use layout::Order;
 use lent::Desk;
 use path_search::{Path, no_path};
 use reading::read_order;
 use report::{Report, write_line};
+use sound_calls::{cancel, make_booking, move_clock, offer};
 use units::{Refusal, Request};
 
 // The answer to an order: what its line says, and the path beside it.
@@ -36,8 +38,9 @@ impl From<Refusal> for Answered {
 }
 
 // What the order that the bytes hold is answered, or why it is refused: 12 and 11 where they cannot be read.
-#[tactic(auto, unfolding(crate::specs::Ordered::ordered, crate::specs::Ordered::answered, desk_core::specs::Lent::tables_after, desk_core::specs::Lent::refusal_answer, desk_core::specs::Lent::choice_answer, histories::specs::Kinds::outcome))]
+#[tactic(auto, unfolding(crate::specs::Ordered::ordered, crate::specs::Ordered::answered, sound_calls::specs::Lent::tables_after, sound_calls::specs::Lent::refusal_answer, sound_calls::specs::Lent::choice_answer, histories::specs::Kinds::outcome))]
 fn carry_out(bytes: &[u8], desk: &mut Desk<'_>) -> Result<Answered, Refusal>
+    requires fine { Fine desk.old.links.now (tables_of desk.old) }
     ensures loans { SameLoans desk.old desk.new }
     ensures answer { told result ≡ (ordered desk.old.links.now (tables_of desk.old) bytes.now).answer }
     ensures tables { tables_of desk.new ≡ (ordered desk.old.links.now (tables_of desk.old) bytes.now).tables }
@@ -76,7 +79,9 @@ fn carry_out(bytes: &[u8], desk: &mut Desk<'_>) -> Result<Answered, Refusal>
 
 // Answers any bytes as an order: 12 and 11 where they cannot be read, else what the call that the order names answers.
 pub fn answer_order(bytes: &[u8], desk: &mut Desk<'_>) -> Answered
+    requires fine { Fine desk.old.links.now (tables_of desk.old) }
     ensures loans { SameLoans desk.old desk.new }
+    ensures fine { Fine desk.new.links.now (tables_of desk.new) }
     ensures answer { result ≡ (ordered desk.old.links.now (tables_of desk.old) bytes.now).answer }
     ensures tables { tables_of desk.new ≡ (ordered desk.old.links.now (tables_of desk.old) bytes.now).tables }
 {
@@ -86,8 +91,10 @@ pub fn answer_order(bytes: &[u8], desk: &mut Desk<'_>) -> Answered
 // Answers any bytes as an order and writes its line from index `at` on; answers the index behind the line.
 #[tactic(auto, using(crate::proofs::Short::ordered_short))]
 pub fn run_order(bytes: &[u8], desk: &mut Desk<'_>, out: &mut [u8], at: usize, place: u64) -> usize
-    requires { at + max_line ≤ length out.old }
+    requires fine { Fine desk.old.links.now (tables_of desk.old) }
+    requires max_line_in_bounds { at + max_line ≤ length out.old }
     ensures loans { SameLoans desk.old desk.new }
+    ensures fine { Fine desk.new.links.now (tables_of desk.new) }
     ensures wrote { Wrote (line_of place (ordered desk.old.links.now (tables_of desk.old) bytes.now)) out.old at out.new result }
     ensures tables { tables_of desk.new ≡ (ordered desk.old.links.now (tables_of desk.old) bytes.now).tables }
     ensures next_bound { result ≤ at + max_line }

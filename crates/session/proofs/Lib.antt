@@ -1,1 +1,8 @@
 -- Laws of the definitions of `specs/`.
+pub mod Orders
+pub mod Came
+pub mod Start
+pub mod Fronts
+pub mod Runs
+pub mod Steps
+pub mod Whole

@@ -3,13 +3,13 @@ use Rattle.std.specs.Prelude.{List, [], ◌∷◌, ◌++◌, ℕ, ◌+◌, ◌*�
 use Rattle.std.specs.Simd.{first_chunks}
 use Rattle.units.specs.declared.Link.{Link}
 use Rattle.units.specs.Limits.{most_links, most_bookings, most_events, place_size}
-use Rattle.units.specs.Lists.{within, if_so}
-use Rattle.layout.specs.Layout.{lead_bytes, link_bytes, order_bytes}
+use Rattle.layout.specs.Layout.{order_bytes}
 use Rattle.layout.specs.Records.{if_passed}
 use Rattle.report.specs.declared.Report.TheVariants.{DeskLinks, DeskRefused}
 use Rattle.report.specs.Line.{line}
 use Rattle.rules.specs.Tables.{Tables, lent}
-use Rattle.opening.specs.Opened.{first_byte, Opened, opened}
+use Rattle.opening.specs.Opened.{Opened, opened}
+unfoldable pub use Rattle.opening.specs.Opened.{first_size}
 use Rattle.orders.specs.Ordered.{Ordered, ordered, line_of}
 
 -- a session under way: its links, its tables, and the place of the next order
@@ -53,11 +53,6 @@ orders bytes = whole_orders bytes ++ last_piece (cut_short bytes)
 unfoldable pub blank : Tables
 blank =
     lent (record { clock = record { 0 = 0 }; links = 0; bookings = 0 }) (replicate most_events 0) (replicate (most_events * most_links) 0) (replicate (most_bookings * place_size) 0)
-
--- 'one byte with the count of links, the links, then orders': how many bytes stand before the orders. A count out of range has no links
--- behind it
-unfoldable pub first_size : List ℕ → ℕ
-first_size bytes = lead_bytes + if_so (within 1 most_links (first_byte bytes)) (first_byte bytes * link_bytes)
 
 -- the session at its first order
 abbrev pub started : Opened → Running

@@ -7,8 +7,8 @@ use Rattle.rules.specs.Calls.{set_up, first_refusal}
 use Rattle.rules.specs.Tables.{table_checks}
 use Rattle.lent.specs.Lent.{tables_of}
 use Rattle.rules.proofs.Exits.{set_up_stopped, set_up_passed, set_up_done}
-use Rattle.desk_core.proofs.Handed.{handed_number, handed_tables}
-use Rattle.desk_core.proofs.Ways.{found}
+use Rattle.sound_calls.proofs.Handed.{handed_number, handed_tables}
+use Rattle.sound_calls.proofs.Ways.{found}
 use Rattle.desk_core.proofs.set_up.Goals as goal
 
 pub returns-in_err-check_set_up-clause-answer : goal.returns-in_err-check_set_up-clause-answer

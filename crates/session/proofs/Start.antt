@@ -1,0 +1,83 @@
+-- The first bytes of a session, as they come.
+use Rattle.std.proofs.Common.{◌≡◌, ◌++◌, ◌+◌, ◌-◌, ◌*◌, ◌≤◌, ◌<◌, ℕ, List, [], ◌∷◌, Bool, true, false, length, get_or, take, drop, refl, sym, ap, ◌∙◌, subst, arith, append-nil, drop_of_length-le}
+use mathlib.Core.Bool.{true≢false}
+use Rattle.std.specs.Option.{is_some, unwrap_or}
+use Rattle.std.specs.Prelude.{Option, None, Some}
+use Rattle.std.specs.Io.KnownBytes.{Consumes, IsAtEnd}
+use Rattle.std.proofs.KnownBytes.{Consumes-trans}
+use Rattle.std.proofs.lemmas.List.{take_all, length-take-le, take-append-le}
+use borrow.Rule.Slice.PartMut.{put_mid}
+use Rattle.std.proofs.Math.Seq.{take-append_seam, take-append-add, drop-append_seam}
+use native.Mathlib.Decide.{dec_lt}
+use Rattle.units.specs.Limits.{most_links}
+use Rattle.units.specs.Lists.{within, if_so}
+use Rattle.layout.specs.Layout.{lead_bytes, link_bytes}
+use Rattle.layout.specs.Records.{if_passed}
+use Rattle.opening.specs.Opened.{first_byte, first_size, records_size}
+use Rattle.session.specs.Streaming.{TakesStart}
+
+pub no_records : (bytes : List ℕ) → records_size (first_byte bytes) ≡ None → first_size bytes ≡ lead_bytes
+unfolding first_size
+no_records bytes = by (within 1 most_links (first_byte bytes))
+  where
+    by : (x : Bool) → if_passed x (Some (first_byte bytes * link_bytes)) None ≡ None → lead_bytes + if_so x (first_byte bytes * link_bytes) ≡ lead_bytes
+    by true e = absurd (true≢false (ap is_some e))
+    by false e = refl
+
+pub some_records : (bytes : List ℕ) (size : ℕ) → records_size (first_byte bytes) ≡ Some size → first_size bytes ≡ lead_bytes + size
+unfolding first_size
+some_records bytes size = by (within 1 most_links (first_byte bytes))
+  where
+    by : (x : Bool) → if_passed x (Some (first_byte bytes * link_bytes)) None ≡ Some size → lead_bytes + if_so x (first_byte bytes * link_bytes) ≡ lead_bytes + size
+    by true e = ap (λ o. lead_bytes + unwrap_or o 0) e
+    by false e = absurd (true≢false (sym (ap is_some e)))
+
+-- the first byte alone tells the size
+size_front : (start rest : List ℕ) → 1 ≤ length start → first_size (start ++ rest) ≡ first_size start
+unfolding first_size
+size_front [] rest h = absurd (omega (arith, h))
+size_front (b ∷ bs) rest h = refl
+
+-- a front of some bytes that is as long as asked, or all of them
+front_is : (k : ℕ) (front rest : List ℕ) → length front ≤ k → (length front < k → rest ≡ []) → (front ≡ take k (front ++ rest)) × (rest ≡ drop k (front ++ rest))
+front_is k front rest h end = elim (dec_lt (length front) k) [
+  | yes less ↦ (let e = end less in (
+    sym (ap (λ r. take k (front ++ r)) e ∙ ap (take k) (append-nil front) ∙ take_all k front h),
+    e ∙ sym (ap (λ r. drop k (front ++ r)) e ∙ ap (drop k) (append-nil front) ∙ drop_of_length-le front h),
+  ))
+  | no more ↦ (let e : k ≡ length front = omega (arith, h, more) in (sym (ap (λ n. take n (front ++ rest)) e ∙ take-append_seam front rest), sym (ap (λ n. drop n (front ++ rest)) e ∙ drop-append_seam front rest)))
+]
+
+-- what came is the start, or all there is
+pub start_came : (old left : Option (List ℕ)) (start : List ℕ) → 1 ≤ length start → length start ≤ first_size start → (length start < first_size start → IsAtEnd left) → Consumes old left start → TakesStart old left start
+start_came None left start some long end c = tt
+start_came (Some bytes) None start some long end c = c
+start_came (Some bytes) (Some rest) start some long end c =
+    let e : first_size bytes ≡ first_size start = ap first_size c ∙ size_front start rest some in
+    let f = front_is (first_size start) start rest long end in
+    (f.0 ∙ sym (ap (λ n. take n bytes) e ∙ ap (take (first_size start)) c), f.1 ∙ sym (ap (λ n. drop n bytes) e ∙ ap (drop (first_size start)) c))
+
+-- a buffer of one byte that was filled, at the start of a longer one
+module _ (old left : Option (List ℕ)) (n : ℕ) (some : n ≡ 0 → ⊥) (few : n ≤ 1) where
+  came_one : (b : ℕ) → Consumes old left (take n (b ∷ [])) → Consumes old left (b ∷ [])
+  came_one b c = let e : n ≡ 1 = omega (arith, some, few) in subst (λ m. Consumes old left (take m (b ∷ []))) e c
+
+  pub lead_alone : (lead post : List ℕ) → length lead ≡ 1 → Consumes old left (take n lead) → records_size (get_or (lead ++ post) 0 0) ≡ None → TakesStart old left (take 1 (lead ++ post))
+  lead_alone [] post one c e = absurd (omega (arith, one))
+  lead_alone (b ∷ d ∷ bs) post one c e = absurd (omega (arith, one))
+  lead_alone (b ∷ []) post one c e =
+      let size = no_records (b ∷ []) e in
+      start_came old left (b ∷ []) (omega arith) (omega (arith, size)) (λ less. absurd (omega (arith, less, size))) (came_one b c)
+
+  pub lead_and_records : (end : Option (List ℕ)) (size k : ℕ) (lead post records : List ℕ) → length lead ≡ 1 → Consumes old left (take n lead) → records_size (get_or (lead ++ post) 0 0) ≡ Some size
+      → length records ≡ size → k ≤ length records → Consumes left end (take k records) → (k < length records → IsAtEnd end) → TakesStart old end (take (1 + k) (put_mid 1 (1 + size - 1) (lead ++ post) records))
+  lead_and_records end size k [] post records one c e long within came ended = absurd (omega (arith, one))
+  lead_and_records end size k (b ∷ d ∷ bs) post records one c e long within came ended = absurd (omega (arith, one))
+  lead_and_records end size k (b ∷ []) post records one c e long within came ended =
+      let start : List ℕ = b ∷ take k records in
+      let whole = some_records (b ∷ []) size e in
+      let whole_start : first_size start ≡ 1 + size = size_front (b ∷ []) (take k records) (omega arith) ∙ whole in
+      let long_start : length start ≡ 1 + k = omega (arith, length-take-le k records within) in
+      subst (TakesStart old end) (sym (take-append-add (b ∷ []) (records ++ _) k ∙ ap (λ l. b ∷ l) (take-append-le k records _ within)))
+      (start_came old end start (omega (arith, long_start)) (omega (arith, long_start, whole_start, within, long)) (λ less. ended (omega (arith, less, long_start, whole_start, long)))
+      (Consumes-trans old left end (b ∷ []) (take k records) (came_one b c) came))

@@ -1,0 +1,46 @@
+-- `run_on` meets its contract: the start is refused, or its orders are run.
+use Rattle.std.proofs.Common.{rules, List, ℕ, take, ap₂}
+use Rattle.std.specs.Io.KnownBytes.{Appends}
+use Rattle.units.proofs.Refusals.{numbered}
+use Rattle.units.specs.declared.Link.{Link}
+use Rattle.rules.specs.Tables.{Tables, lent}
+use Rattle.session.specs.Session.{Running}
+use Rattle.session.specs.Streaming.{AppendsFront}
+use Rattle.session.proofs.Whole.{session_refused, session_accepted}
+use Rattle.session.proofs.run_on.Goals as goal
+
+-- a session at its first order
+abbrev at_first : List Link → Tables → Running
+at_first links t = record { links = links; tables = t; place = 1 }
+
+pub returns-in-Err-clause-whole : goal.returns-in-Err-clause-whole
+returns-in-Err-clause-whole g c =
+    let size = c.in_ok-size in
+    let P : List ℕ → Type 0 = λ bytes. Appends (g.W.Write.contents c.args.output.now) (g.W.Write.contents c.write_start.new.output) bytes in
+    let whole = session_refused (g.R.Read.remaining c.args.input.now) (g.R.Read.remaining c.read_start.new.input) (take size.size c.read_start.new.first) size.ensures.start _ c.requires P _ c.in-Err.ensures.refusal (numbered c.in-Err.refusal) in
+    search (rules, whole)
+
+pub returns-in-Err-clause-front : goal.returns-in-Err-clause-front
+returns-in-Err-clause-front g c =
+    let size = c.in_ok-size in
+    let P : List ℕ → Type 0 = λ bytes. AppendsFront (g.W.Write.contents c.args.output.now) (g.W.Write.contents c.write_start.new.output) bytes in
+    let fails = session_refused (g.R.Read.remaining c.args.input.now) (g.R.Read.remaining c.read_start.new.input) (take size.size c.read_start.new.first) size.ensures.start _ c.requires P _ c.in-Err.ensures.refusal (numbered c.in-Err.refusal) in
+    search (rules, fails)
+
+pub returns-in-Ok-clause-whole : goal.returns-in-Ok-clause-whole
+returns-in-Ok-clause-whole g c =
+    let size = c.in_ok-size in
+    let left = c.open_desk.new in
+    let P : List ℕ → Type 0 = λ bytes. Appends (g.W.Write.contents c.args.output.now) (g.W.Write.contents c.run_opened.new.output) bytes in
+    let r : Running = at_first c.in-Ok.links.now (lent left.head left.events left.free left.book) in
+    let whole = session_accepted (g.R.Read.remaining c.args.input.now) (g.R.Read.remaining c.read_start.new.input) (take size.size c.read_start.new.first) size.ensures.start _ c.requires P r c.in-Ok.ensures.refusal (ap₂ at_first c.in-Ok.ensures.links c.in-Ok.ensures.tables) in
+    search (rules, whole)
+
+pub returns-in-Ok-clause-front : goal.returns-in-Ok-clause-front
+returns-in-Ok-clause-front g c =
+    let size = c.in_ok-size in
+    let left = c.open_desk.new in
+    let P : List ℕ → Type 0 = λ bytes. AppendsFront (g.W.Write.contents c.args.output.now) (g.W.Write.contents c.run_opened.new.output) bytes in
+    let r : Running = at_first c.in-Ok.links.now (lent left.head left.events left.free left.book) in
+    let fails = session_accepted (g.R.Read.remaining c.args.input.now) (g.R.Read.remaining c.read_start.new.input) (take size.size c.read_start.new.first) size.ensures.start _ c.requires P r c.in-Ok.ensures.refusal (ap₂ at_first c.in-Ok.ensures.links c.in-Ok.ensures.tables) in
+    search (rules, fails)

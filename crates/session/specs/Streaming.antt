@@ -1,0 +1,71 @@
+-- What a session makes of an input that comes piece by piece, and of an output that may fail: what was written was due, and the rest is due
+-- still. Where the bytes of the input are not known, as those of a pipe, nothing is said.
+use Rattle.std.specs.Prelude.{◌≡◌, ⊤, List, [], ◌++◌, Bool, true, false, ℕ, ◌/◌, length, take, drop, Option, None, Some}
+use Rattle.std.specs.Io.KnownBytes.{Appends, Consumes}
+use Rattle.layout.specs.Layout.{order_bytes}
+use Rattle.report.specs.declared.Report.TheVariants.{DeskLinks}
+use Rattle.report.specs.Line.{line}
+use Rattle.lent.specs.Lent.{tables_of}
+use Rattle.lent.specs.declared.Desk.{Desk}
+use Rattle.opening.specs.Opened.{first_size}
+use Rattle.session.specs.Session.{Running, lines, orders}
+use Rattle.session.specs.declared.writer.Lines.{Lines}
+use Rattle.session.specs.declared.reader.Block.{Block}
+
+-- the first bytes of an input, taken off it
+abbrev pub TakesStart : Option (List ℕ) → Option (List ℕ) → List ℕ → Type 0
+TakesStart None left start = ⊤
+TakesStart (Some bytes) None start = ⊥
+TakesStart (Some bytes) (Some left) start = (start ≡ take (first_size bytes) bytes) × (left ≡ drop (first_size bytes) bytes)
+
+-- bytes of an input, behind those that came before
+abbrev pub ComesBehind : Option (List ℕ) → Option (List ℕ) → List ℕ → List ℕ → Type 0
+ComesBehind old left before all = (came : List ℕ) × Consumes old left came × (all ≡ before ++ came)
+
+-- some of these bytes, from the first on
+abbrev pub AppendsFront : Option (List ℕ) → Option (List ℕ) → List ℕ → Type 0
+AppendsFront old new bytes = (n : ℕ) × Appends old new (take n bytes)
+
+-- lines that stand in a buffer, to be written
+abbrev pub pending : Lines → List ℕ
+pending l = take l.used l.bytes
+
+-- the bytes that have come of an order which is not whole yet
+abbrev pub kept : Block → List ℕ
+kept b = take b.kept b.bytes
+
+-- the bytes of a block that is full, and its orders
+abbrev pub block_bytes : ℕ
+block_bytes = 65536
+
+abbrev pub most_orders : ℕ
+most_orders = block_bytes / order_bytes
+
+-- the session of a desk at a place, and at that of the next line
+abbrev pub at_place : Desk → ℕ → Running
+at_place desk place = record { links = desk.links.now; tables = tables_of desk; place = place }
+
+abbrev pub running : Desk → Lines → Running
+running desk l = at_place desk l.place
+
+-- the lines of a desk that was opened, and of the orders behind it
+abbrev pub opened_lines : Running → List ℕ → List ℕ
+opened_lines r bytes = line 0 (DeskLinks (length r.links)) [] ++ lines r (orders bytes)
+
+-- what is due where the input goes on with these bytes
+abbrev pub due : Running → List ℕ → List ℕ → List ℕ
+due r come bytes = lines r (orders (come ++ bytes))
+
+abbrev pub due_if : Bool → (List ℕ → List ℕ) → List ℕ → List ℕ
+due_if true still bytes = still bytes
+due_if false still bytes = []
+
+-- lines that were pending are written, or pending still
+abbrev pub Moves : Option (List ℕ) → Option (List ℕ) → List ℕ → List ℕ → Type 0
+Moves old new before after = (written : List ℕ) × Appends old new written × (before ≡ written ++ after)
+
+-- from what the input had left and the output held to what they have and hold
+abbrev pub Goes : Option (List ℕ) → Option (List ℕ) → Option (List ℕ) → Option (List ℕ) → (List ℕ → List ℕ) → (List ℕ → List ℕ) → Type 0
+Goes None left old new before after = ⊤
+Goes (Some bytes) None old new before after = ⊥
+Goes (Some bytes) (Some left) old new before after = Moves old new (before bytes) (after left)

@@ -1,0 +1,105 @@
+// Reading: once, until a buffer is full, and the first bytes of a session. A read that a signal interrupts is tried again.
+
+ghost use Rattle.std.specs.Prelude.{◌≡◌, ◌≤◌, ◌<◌, length, take, IfOk};
+ghost use Rattle.std.specs.Io.{ReadsAtMost};
+ghost use Rattle.std.specs.Io.KnownBytes.{Consumes, IsAtEnd};
+ghost use Rattle.layout.specs.Layout.{order_bytes};
+ghost use Rattle.session.specs.Session.{cut_short};
+ghost use Rattle.session.specs.Streaming.{ComesBehind, TakesStart, kept, block_bytes};
+
+use layout::{FIRST_BYTES, LEAD_BYTES, ORDER_BYTES};
+use opening::records_size;
+use std::io::{self, ErrorKind, Read};
+
+// Reads once, and answers how many bytes came; none only at the input's end.
+pub(crate) fn read_some<R: Read>(input: &mut R, buffer: &mut [u8]) -> io::Result<usize>
+    ensures bound { ReadsAtMost result buffer.new }
+    ensures came { IfOk result (λ n. Consumes (R.remaining input.old) (R.remaining input.new) (take n buffer.new)) }
+    ensures end { IfOk result (λ n. n ≡ 0 → 0 < length buffer.old → IsAtEnd (R.remaining input.new)) }
+{
+    for _ in 0..u64::MAX {
+        match input.read(buffer) {
+            Err(error) if error.kind() == ErrorKind::Interrupted => {}
+            read => return read,
+        }
+    }
+    Err(io::Error::from(ErrorKind::TimedOut))
+}
+
+// Reads until the buffer is full or the input ends, and answers how many bytes stand at its start then.
+pub(crate) fn read_full<R: Read>(input: &mut R, buffer: &mut [u8]) -> io::Result<usize>
+    ensures bound { ReadsAtMost result buffer.new }
+    ensures came { IfOk result (λ n. Consumes (R.remaining input.old) (R.remaining input.new) (take n buffer.new)) }
+    ensures end { IfOk result (λ n. n < length buffer.old → IsAtEnd (R.remaining input.new)) }
+{
+    let mut done = 0;
+    while done < buffer.len() {
+        match read_some(input, &mut buffer[done..])? {
+            0 => return Ok(done),
+            came => done += came,
+        }
+    }
+    Ok(done)
+}
+
+// The bytes of a block of orders.
+const BLOCK_BYTES: usize = 65_536;
+
+// The bytes of orders that have come and are not answered yet.
+#[derive(Drop)]
+pub(crate) struct Block {
+    pub(crate) bytes: [u8; BLOCK_BYTES],
+    pub(crate) kept: usize,
+}
+
+impl Block {
+    // No byte has come.
+    pub(crate) fn new() -> Block
+        ensures { result.kept ≡ 0 }
+    {
+        Block {
+            bytes: [0; BLOCK_BYTES],
+            kept: 0,
+        }
+    }
+
+    // Reads once, behind the bytes that are kept, and answers how many stand in the block then; no more only at the input's end.
+    #[tactic(auto, using(crate::proofs::Came::came_behind))]
+    pub(crate) fn read_more<R: Read>(&mut self, input: &mut R) -> io::Result<usize>
+        requires { self.old.kept < order_bytes }
+        ensures kept { self.new.kept ≡ self.old.kept }
+        ensures within { IfOk result (λ size. size ≤ block_bytes) }
+        ensures came { IfOk result (λ size. ComesBehind (R.remaining input.old) (R.remaining input.new) (kept self.old) (take size self.new.bytes)) }
+        ensures end { IfOk result (λ size. size ≡ self.old.kept → IsAtEnd (R.remaining input.new)) }
+    {
+        let came = read_some(input, &mut self.bytes[self.kept..])?;
+        Ok(self.kept + came)
+    }
+
+    // Keeps what is cut short of the bytes that stand in the block.
+    #[tactic(auto, using(crate::proofs::Came::moved_down))]
+    pub(crate) fn keep(&mut self, size: usize)
+        requires { size ≤ block_bytes }
+        ensures short { self.new.kept < order_bytes }
+        ensures bytes { kept self.new ≡ cut_short (take size self.old.bytes) }
+    {
+        self.kept = size % ORDER_BYTES;
+        self.bytes.copy_within(size - self.kept..size, 0);
+    }
+}
+
+// Reads the first byte of a session and as many link records as it counts; answers how many bytes came. A count out of range has no
+// records to wait for.
+pub(crate) fn read_start<R: Read>(input: &mut R, first: &mut [u8; FIRST_BYTES]) -> io::Result<usize>
+    ensures bound { ReadsAtMost result first.new }
+    ensures start { IfOk result (λ n. TakesStart (R.remaining input.old) (R.remaining input.new) (take n first.new)) }
+{
+    if read_full(input, &mut first[..LEAD_BYTES])? == 0 {
+        return Ok(0);
+    }
+    let Some(size) = records_size(first[0]) else {
+        return Ok(LEAD_BYTES);
+    };
+    let came = read_full(input, &mut first[LEAD_BYTES..LEAD_BYTES + size])?;
+    Ok(LEAD_BYTES + came)
+}

@@ -1,0 +1,4 @@
+pub mod FromPlainBook
+pub mod Examples
+pub mod Cutting
+pub mod Samples

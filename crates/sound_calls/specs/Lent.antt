@@ -1,0 +1,61 @@
+-- What the contracts of the seven calls say: the answer and the tables as they are handed back, from the one outcome.
+use Rattle.std.specs.Prelude.{List, ℕ, Result, Ok, Err}
+use Rattle.units.specs.declared.Link.{Link}
+use Rattle.units.specs.declared.Bandwidth.{Bandwidth}
+use Rattle.units.specs.declared.Refusal.{Refusal}
+use Rattle.units.specs.Refusals.{number}
+use Rattle.choice.specs.declared.ChoiceRecord.{ChoiceRecord}
+use Rattle.listing.specs.Ranges.{list_table}
+use Rattle.sound_calls.specs.declared.Shown.{Shown}
+use Rattle.sound_calls.specs.declared.Listed.{Listed}
+use Rattle.rules.specs.Calls.{Call, Answer, done, starts, lists, shows, refused, values}
+use Rattle.rules.specs.Tables.{Tables}
+use Rattle.rules.specs.Desk.{outcome}
+
+-- an answer's number and values, for a booking or an offer, for a listing, and for a showing
+abbrev pub choice_shown : Answer → ChoiceRecord
+choice_shown a = record { refusal = (values a).number; start = record { 0 = (values a).start }; path = record { count = (values a).count; links = (values a).path } }
+
+abbrev pub listed : Answer → Listed
+listed a = record { refusal = (values a).number; count = (values a).ranges }
+
+-- what a lent list holds after an answer: the ranges, or what it held
+abbrev pub list_left : Answer → List ℕ → List ℕ
+list_left done old = old
+list_left (starts g) old = old
+list_left (lists rs) old = list_table rs
+list_left (shows x) old = old
+list_left (refused r) old = old
+
+abbrev pub shown : Answer → Shown
+shown a = record { refusal = (values a).number; free = record { 0 = (values a).figure } }
+
+-- a listing that is answered, and a showing, as they are handed out
+abbrev pub listed_values : Result ℕ Refusal → Listed
+listed_values (Ok count) = record { refusal = 0; count = count }
+listed_values (Err refusal) = record { refusal = number refusal; count = 0 }
+
+abbrev pub shown_values : Result Bandwidth Refusal → Shown
+shown_values (Ok free) = record { refusal = 0; free = free }
+shown_values (Err refusal) = record { refusal = number refusal; free = record { 0 = 0 } }
+
+module _ (links : List Link) (t : Tables) (c : Call) where
+  unfoldable pub choice_answer : ChoiceRecord
+  choice_answer = choice_shown (outcome links t c).answer
+
+  unfoldable pub listed_answer : Listed
+  listed_answer = listed (outcome links t c).answer
+
+  unfoldable pub list_after : List ℕ → List ℕ
+  list_after = list_left (outcome links t c).answer
+
+  unfoldable pub shown_answer : Shown
+  shown_answer = shown (outcome links t c).answer
+
+  -- the refusal number of a call that hands nothing else back; 0 if it is accepted
+  unfoldable pub refusal_answer : ℕ
+  refusal_answer = (values (outcome links t c).answer).number
+
+  -- the tables that are handed back
+  unfoldable pub tables_after : Tables
+  tables_after = (outcome links t c).tables
