@@ -1,10 +1,10 @@
-//! The program with an input that fails, an output that fails, and a reader that goes away.
+//! The program with an input that fails, and with an output that fails.
 
 use std::fs::File;
 use std::io::{pipe, PipeReader, Read, Write};
 use std::os::fd::OwnedFd;
 use std::os::unix::net::UnixStream;
-use std::process::{Command, Stdio};
+use std::process::Stdio;
 use std::sync::mpsc::{channel, Receiver};
 use std::sync::LazyLock;
 
@@ -20,57 +20,6 @@ const SEED: u64 = 0xDE5_6000;
 static LONG: LazyLock<(Vec<u8>, String)> = LazyLock::new(|| told(SEED, Style::Chain, 12_500));
 /// A session of a few orders, and its lines.
 static SHORT: LazyLock<(Vec<u8>, String)> = LazyLock::new(|| told(SEED, Style::Dense, 8));
-
-/// A program of the kit ignores the signal that its reader is gone, whether that has its default action at the start or is
-/// ignored there too.
-const WAYS: [fn() -> Command; 2] = [program, || through_shell("trap '' PIPE; exec \"$0\"")];
-
-#[test]
-fn the_reader_goes_away() {
-    let (input, lines) = &*LONG;
-    for start in WAYS {
-        for read in [0, 1, 11, 4_096, BLOCK_BYTES, BLOCK_BYTES + 1, 150_000] {
-            println!("{read} bytes are read");
-            // More is due than the reader's pipe and the program hold.
-            assert!(read + 2 * BLOCK_BYTES < lines.len(), "{} bytes are due", lines.len());
-            let (reader, writer) = pipe().expect("a pipe");
-            let run = Run::start(start(), file(input), writer, reader.take(read as u64));
-            same(&run.end().failed(), &lines[..read]);
-        }
-    }
-}
-
-#[test]
-fn the_reader_is_gone_before() {
-    for input in [&LONG.0[..], &SHORT.0, &[0], &[]] {
-        for start in WAYS {
-            println!("{} bytes", input.len());
-            let (reader, writer) = pipe().expect("a pipe");
-            drop(reader);
-            Run::start(start(), file(input), writer, std::io::empty()).end().failed();
-        }
-    }
-}
-
-/// The program ends with the order whose line finds no reader, though its input is open.
-#[test]
-fn the_reader_goes_away_between_orders() {
-    let (input, lines) = &*SHORT;
-    let first = first_bytes(input);
-    for start in WAYS {
-        for orders in [0, 1, 4] {
-            println!("behind {orders} orders");
-            let read: String = lines.split_inclusive('\n').take(1 + orders).collect();
-            let (reader, writer) = pipe().expect("a pipe");
-            let mut run = Run::start(start(), Stdio::piped(), writer, reader.take(read.len() as u64));
-            run.send(&input[..first + orders * ORDER_BYTES]);
-            let came: String = (0..1 + orders).map_while(|_| run.line()).collect();
-            assert_eq!((came, run.line()), (read, None));
-            run.send(&input[first + orders * ORDER_BYTES..][..ORDER_BYTES]);
-            run.end().failed();
-        }
-    }
-}
 
 fn full_device() -> File {
     File::options().write(true).open("/dev/full").expect("a device that is full")
