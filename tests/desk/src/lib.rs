@@ -8,6 +8,7 @@ pub mod exported;
 pub mod lines;
 pub mod listings;
 pub mod plain;
+pub mod program;
 pub mod sessions;
 pub mod tables;
 

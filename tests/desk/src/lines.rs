@@ -3,8 +3,8 @@
 use crate::plain::{Answer, Call, Desk, Start};
 use crate::{Link, Request, LINKS, MAX_MINUTE};
 
-const LINK_BYTES: usize = 8;
-const ORDER_BYTES: usize = 16;
+pub const LINK_BYTES: usize = 8;
+pub const ORDER_BYTES: usize = 16;
 /// A latest start of all ones, which means open.
 pub const OPEN: u32 = 0x3FFF_FFFF;
 
