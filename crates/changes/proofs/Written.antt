@@ -10,7 +10,7 @@ use Rattle.units.specs.declared.Link.{Link}
 use Rattle.units.specs.declared.Head.{Head}
 use Rattle.units.specs.declared.Minute.{Minute}
 use Rattle.units.specs.declared.Request.{Request}
-use Rattle.units.specs.Limits.{most_bookings, most_hops, place_size}
+use Rattle.units.specs.Limits.{most_bookings, most_events, most_hops, place_size}
 use Rattle.units.specs.Lists.{count_from}
 use Rattle.timeline.specs.Insertion.{Room}
 use Rattle.path_search.specs.declared.Path.{Path}
@@ -94,10 +94,10 @@ module _ {links : List Link} {t : Tables} (fine : Fine links t) {number : ℕ} {
   figures_are : figures (granted_place number r start path) ≡ place (booked number r start path)
   figures_are = ap (λ q. figures (granted_place number r start q)) g.path_is
 
-  can_add : CanAdd links (held t) (granted_place number r start path)
+  can_add : CanAdd most_events links (held t) (granted_place number r start path)
   can_add = record {
     few_links = (sizes fine).links_right.1;
-    room = g.room;
+    room = omega (arith, g.room);
     right = right_in links (put_in (booked number r start path) (held t)) (held t) (booked number r start path) g.booking_right.still_stands g.booking_right;
     count_right = omega (arith, ap (λ q. q.count) g.path_is, short);
   }
@@ -107,17 +107,17 @@ module _ {links : List Link} {t : Tables} (fine : Fine links t) {number : ℕ} {
   enter_asks = slot_inside fine (booked number r start path) short g.room
 
   pub granted_right : PlaceRight (granted_place number r start path)
-  granted_right = place_right links (held t) (granted_place number r start path) can_add
+  granted_right = place_right most_events links (held t) (granted_place number r start path) can_add
 
   pub granted_room : Room t.events t.free 2
-  granted_room = rw (events_are fine, free_are fine) (place_room links (held t) (granted_place number r start path) can_add)
+  granted_room = rw (events_are fine, free_are fine) (place_room most_events links (held t) (granted_place number r start path) can_add)
 
   -- and the tables with what they give
   pub entered_tables : {es' t' book' : List ℕ} {answer : Bool} → Adds (release_of t.head (granted_place number r start path)) (granted_place number r start path) t.events t.free es' t' answer
       → book' ≡ with_booking (slot place_size number t.book t.head.bookings) (granted_place number r start path) t.book
       → lent (with_count t.head (t.head.bookings + 1)) es' t' book' ≡ tables links (put_in (booked number r start path) (held t))
   entered_tables {es'} {t'} {book'} {answer} a b =
-      let more = added links (held t) (granted_place number r start path) can_add es' t' answer (rw (events_are fine, free_are fine) at a) in
+      let more = added most_events links (held t) (granted_place number r start path) can_add es' t' answer (rw (events_are fine, free_are fine) at a) in
       tables_are links (put_in (booked number r start path) (held t)) one_more more.events_are more.free_are
       (b ∙ book_entered fine (booked number r start path) short g.room (granted_place number r start path) figures_are)
     where

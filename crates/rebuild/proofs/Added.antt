@@ -11,7 +11,7 @@ use lib.Dec.{leb, ltb, eqb}
 use lib.ListN.{length}
 use borrow.Author.Tests.{eqb-true}
 use Rattle.units.specs.declared.Link.{Link}
-use Rattle.units.specs.Limits.{most_links, most_bookings, most_events, most_hops}
+use Rattle.units.specs.Limits.{most_links, most_hops}
 use Rattle.units.specs.Lists.{if_so, member, padded, all, All, Distinct}
 use Rattle.units.specs.Search.{all_from}
 use Rattle.units.proofs.Tests.{Tells, ◌&◌, at_most, member_tells, absent_test, Side, below, above, side}
@@ -34,9 +34,9 @@ use Rattle.path_search.specs.Paths.{Graph, Leads, PathRight}
 use Rattle.book.specs.declared.Booking.{Booking as Place}
 use Rattle.rules.specs.Plain.{Booking, Plain, until, uses, times, taken, capacity, graph, free}
 use Rattle.rules.specs.Calls.{put_in}
-use Rattle.rules.specs.Tables.{events_of, event_table, free_table, booking_of}
+use Rattle.rules.specs.Tables.{events_of, booking_of}
 use Rattle.rules.specs.Sound.{BookingRight}
-use Rattle.rebuild.specs.Rebuilding.{place_path, less_path, enough_path, PlaceRight}
+use Rattle.rebuild.specs.Rebuilding.{place_path, less_path, enough_path, PlaceRight, events_in, free_in}
 use Rattle.rebuild.proofs.Along.{link_below}
 use Rattle.rules.specs.Desk.{NotOversold}
 use Rattle.rules.proofs.Uses.{all_times, uses_most, uses_within, taken_put_in, free_put_in, taken_past, free_changes}
@@ -84,14 +84,14 @@ less_along_is f w start end (l ∷ ls) d j m =
     less_along_is (less f l w start end) w start end ls d.1 j m
     ∙ once (leb start m) (ltb m end) (eqb j l) (member j ls) (f j m) w (λ e. rw (eqb-true j l e) (absent_test l ls d.0))
 
-module _ (links : ℕ) (small : links ≤ most_links) (c : ℕ) (ts : List ℕ) (few : length (events c ts) ≤ most_events) (start end w : ℕ) (in_order : start ≤ end)
+module _ (n links : ℕ) (small : links ≤ most_links) (c : ℕ) (ts : List ℕ) (few : length (events c ts) ≤ n) (start end w : ℕ) (in_order : start ≤ end)
     (from : Memᴰ start ts) (to : Memᴰ end ts) where
   less_path_table : (f : ℕ → ℕ → ℕ) (path : List ℕ) → All (λ l. l < most_links) path
-      → less_path (padded most_events (events c ts)) start end w path (table most_events links f (events c ts)) ≡ table most_events links (less_along f w start end path) (events c ts)
+      → less_path (padded n (events c ts)) start end w path (table n links f (events c ts)) ≡ table n links (less_along f w start end path) (events c ts)
   unfolding less_path less_along
   less_path_table f [] a = refl
   less_path_table f (l ∷ ls) a =
-      ap (less_path (padded most_events (events c ts)) start end w ls) (less_span_table most_events links f small c ts few start end l w a.0 in_order from to)
+      ap (less_path (padded n (events c ts)) start end w ls) (less_span_table n links f small c ts few start end l w a.0 in_order from to)
       ∙ less_path_table (less f l w start end) ls a.1
 
 -- ---- looking along a path
@@ -117,35 +117,35 @@ events_few p =
     let few = later_length p.clock (all_times p) in
     omega arith
 
-module _ (links : List Link) (p : Plain) (b : Booking) (small : length links ≤ most_links) (more : length p.bookings < most_bookings) where
-  few : length (events_of (put_in b p)) ≤ most_events
+module _ (n : ℕ) (links : List Link) (p : Plain) (b : Booking) (small : length links ≤ most_links) (more : 3 + 2 * length p.bookings ≤ n) where
+  few : length (events_of (put_in b p)) ≤ n
   few = omega (arith, events_few (put_in b p))
 
   -- the tables have room for its two events
-  room_left : Room (event_table p) (free_table links p) 2
-  room_left = room_of_events most_events p.clock (all_times p) (free_table links p) 2 (length_table (length links) (free links p) small most_events (events_of p) (omega (arith, events_few p))) (omega (arith, events_few p))
+  room_left : Room (events_in n p) (free_in n links p) 2
+  room_left = room_of_events n p.clock (all_times p) (free_in n links p) 2 (length_table (length links) (free links p) small n (events_of p) (omega (arith, events_few p))) (omega (arith, events_few p))
 
   -- the events with its start and its end
-  events_added : with_span b.grant.start (until p b) (event_table p) ≡ event_table (put_in b p)
+  events_added : with_span b.grant.start (until p b) (events_in n p) ≡ events_in n (put_in b p)
   unfolding flatten
-  events_added = with_span_events p.clock b.grant.start (until p b) (all_times p) most_events few
+  events_added = with_span_events p.clock b.grant.start (until p b) (all_times p) n few
 
-  rows_added : with_span_rows most_links (event_table p) b.grant.start (until p b) (free_table links p) ≡ table most_events (length links) (free links p) (events_of (put_in b p))
+  rows_added : with_span_rows most_links (events_in n p) b.grant.start (until p b) (free_in n links p) ≡ table n (length links) (free links p) (events_of (put_in b p))
   unfolding flatten
-  rows_added = table_with_span most_events (length links) (free links p) small p.clock (all_times p) (λ l h. free_changes links p l) b.grant.start (until p b) few
+  rows_added = table_with_span n (length links) (free links p) small p.clock (all_times p) (λ l h. free_changes links p l) b.grant.start (until p b) few
 
   module _ (r : BookingRight links p b) where
     inside : All (λ l. l < length links) b.grant.path
     inside = path_inside (graph links) b.grant.path r.path_right
 
     -- and its bandwidth taken
-    free_added : less_path (with_span b.grant.start (until p b) (event_table p)) b.grant.start (until p b) b.terms.bandwidth b.grant.path (with_span_rows most_links (event_table p) b.grant.start (until p b) (free_table links p))
-        ≡ free_table links (put_in b p)
+    free_added : less_path (with_span b.grant.start (until p b) (events_in n p)) b.grant.start (until p b) b.terms.bandwidth b.grant.path (with_span_rows most_links (events_in n p) b.grant.start (until p b) (free_in n links p))
+        ≡ free_in n links (put_in b p)
     unfolding flatten
     free_added =
         ap₂ (λ (es t : List ℕ). less_path es b.grant.start (until p b) b.terms.bandwidth b.grant.path t) events_added rows_added
-        ∙ less_path_table (length links) small p.clock (b.grant.start ∷ until p b ∷ all_times p) few b.grant.start (until p b) b.terms.bandwidth (omega arith) (Memᴰ.head refl) (Memᴰ.tail (Memᴰ.head refl)) (free links p) b.grant.path (all_map (λ l. l < length links) (λ l. l < most_links) (λ l h. omega arith) b.grant.path inside)
-        ∙ ap (λ f. table most_events (length links) f (events_of (put_in b p))) figures
+        ∙ less_path_table n (length links) small p.clock (b.grant.start ∷ until p b ∷ all_times p) few b.grant.start (until p b) b.terms.bandwidth (omega arith) (Memᴰ.head refl) (Memᴰ.tail (Memᴰ.head refl)) (free links p) b.grant.path (all_map (λ l. l < length links) (λ l. l < most_links) (λ l h. omega arith) b.grant.path inside)
+        ∙ ap (λ f. table n (length links) f (events_of (put_in b p))) figures
       where
         figures : less_along (free links p) b.terms.bandwidth b.grant.start (until p b) b.grant.path ≡ free links (put_in b p)
         figures = fun_ext λ l. fun_ext λ m. less_along_is (free links p) b.terms.bandwidth b.grant.start (until p b) b.grant.path (path_distinct (graph links) b.grant.path r.path_right) l m ∙ sym (free_put_in links p b l m)
@@ -153,7 +153,7 @@ module _ (links : List Link) (p : Plain) (b : Booking) (small : length links ≤
     -- whether a link has the bandwidth in every minute of the span from the clock on
     link_fits : (l : ℕ) → l < length links
         → Tells
-        (enough_span (event_table (put_in b p)) b.grant.start (until p b) l b.terms.bandwidth (table most_events (length links) (free links p) (events_of (put_in b p))))
+        (enough_span (events_in n (put_in b p)) b.grant.start (until p b) l b.terms.bandwidth (table n (length links) (free links p) (events_of (put_in b p))))
         ((m : ℕ) → p.clock ≤ m → b.grant.start ≤ m → m < until p b → b.terms.bandwidth ≤ free links p l m)
     unfolding flatten
     link_fits l h = by (side b.grant.start p.clock)
@@ -168,7 +168,7 @@ module _ (links : List Link) (p : Plain) (b : Booking) (small : length links ≤
         test m = leb b.terms.bandwidth (free links p l m)
 
         looked : Bool
-        looked = enough_span (event_table (put_in b p)) b.grant.start (until p b) l b.terms.bandwidth (table most_events (length links) (free links p) (events_of (put_in b p)))
+        looked = enough_span (events_in n (put_in b p)) b.grant.start (until p b) l b.terms.bandwidth (table n (length links) (free links p) (events_of (put_in b p)))
 
         changes : ChangesAt ts (free links p l)
         changes = changes_more start (changes_more (until p b) (free_changes links p l))
@@ -183,19 +183,19 @@ module _ (links : List Link) (p : Plain) (b : Booking) (small : length links ≤
         by : Side start p.clock → Tells looked ((m : ℕ) → p.clock ≤ m → start ≤ m → m < until p b → b.terms.bandwidth ≤ free links p l m)
         by (below k) =
             since p.clock (omega arith) (omega arith) (λ m i j. i)
-            (enough_span_early most_events p.clock ts (table most_events (length links) (free links p) (events p.clock ts)) l b.terms.bandwidth start (until p b) (omega arith)
-            ∙ enough_span_table most_events (length links) (free links p) small p.clock ts l b.terms.bandwidth h changes p.clock (until p b) (omega arith) r.still_stands)
+            (enough_span_early n p.clock ts (table n (length links) (free links p) (events p.clock ts)) l b.terms.bandwidth start (until p b) (omega arith)
+            ∙ enough_span_table n (length links) (free links p) small p.clock ts l b.terms.bandwidth h changes p.clock (until p b) (omega arith) r.still_stands)
         by (above k) =
-            since start (omega arith) k (λ m i j. j) (enough_span_table most_events (length links) (free links p) small p.clock ts l b.terms.bandwidth h changes start (until p b) k (omega (arith, r.duration_right.0)))
+            since start (omega arith) k (λ m i j. j) (enough_span_table n (length links) (free links p) small p.clock ts l b.terms.bandwidth h changes start (until p b) k (omega (arith, r.duration_right.0)))
 
     -- what is answered
     answer_added : Tells
-        (enough_path (with_span b.grant.start (until p b) (event_table p)) b.grant.start (until p b) b.terms.bandwidth b.grant.path (with_span_rows most_links (event_table p) b.grant.start (until p b) (free_table links p)))
+        (enough_path (with_span b.grant.start (until p b) (events_in n p)) b.grant.start (until p b) b.terms.bandwidth b.grant.path (with_span_rows most_links (events_in n p) b.grant.start (until p b) (free_in n links p)))
         (Fits links p b)
     unfolding enough_path
     answer_added =
         rw (events_added, rows_added)
-        (all_tells_in (λ l. enough_span (event_table (put_in b p)) b.grant.start (until p b) l b.terms.bandwidth (table most_events (length links) (free links p) (events_of (put_in b p))))
+        (all_tells_in (λ l. enough_span (events_in n (put_in b p)) b.grant.start (until p b) l b.terms.bandwidth (table n (length links) (free links p) (events_of (put_in b p))))
         (λ l. (m : ℕ) → p.clock ≤ m → b.grant.start ≤ m → m < until p b → b.terms.bandwidth ≤ free links p l m) (λ l. l < length links) link_fits b.grant.path inside)
 
 -- ---- no link is oversold with it where none was without, and its links have the bandwidth
@@ -224,10 +224,10 @@ module _ (links : List Link) (p : Plain) (b : Booking) (right : BookingRight lin
 
 -- ---- as `add_booking` asks and gives it
 
--- a booking that can be added to the right tables of p: they have room, and its figures are right
-pub record CanAdd (links : List Link) (p : Plain) (b : Place) : Type 0 where
+-- a booking that can be added to the right tables of p of n rows: they have room, and its figures are right
+pub record CanAdd (n : ℕ) (links : List Link) (p : Plain) (b : Place) : Type 0 where
   pub few_links : length links ≤ most_links
-  pub room : length p.bookings < most_bookings
+  pub room : 3 + 2 * length p.bookings ≤ n
   pub right : BookingRight links p (booking_of b)
   pub count_right : b.count ≤ most_hops
 
@@ -239,12 +239,12 @@ Adds end b es t es' t' answer =
     × (answer ≡ enough_path (with_span b.start.0 end es) b.start.0 end b.bandwidth.0 (place_path b) (with_span_rows most_links es b.start.0 end t))
 
 -- what that is on the right tables of p
-pub record Added (links : List Link) (p : Plain) (b : Booking) (es t : List ℕ) (answer : Bool) : Type 0 where
-  pub events_are : es ≡ event_table (put_in b p)
-  pub free_are : t ≡ free_table links (put_in b p)
+pub record Added (n : ℕ) (links : List Link) (p : Plain) (b : Booking) (es t : List ℕ) (answer : Bool) : Type 0 where
+  pub events_are : es ≡ events_in n (put_in b p)
+  pub free_are : t ≡ free_in n links (put_in b p)
   pub answer_is : Tells answer (Fits links p b)
 
-module _ (links : List Link) (p : Plain) (b : Place) (can : CanAdd links p b) where
+module _ (n : ℕ) (links : List Link) (p : Plain) (b : Place) (can : CanAdd n links p b) where
   pub place_right : PlaceRight b
   place_right = record {
     start_right = can.right.start_right;
@@ -253,12 +253,12 @@ module _ (links : List Link) (p : Plain) (b : Place) (can : CanAdd links p b) wh
     links_right = λ i h. omega (arith, can.few_links, link_below (length links) (place_path b) i (path_inside (graph links) (place_path b) can.right.path_right) h);
   }
 
-  pub place_room : Room (event_table p) (free_table links p) 2
-  place_room = room_left links p (booking_of b) can.few_links can.room
+  pub place_room : Room (events_in n p) (free_in n links p) 2
+  place_room = room_left n links p (booking_of b) can.few_links can.room
 
-  pub added : (es' t' : List ℕ) (answer : Bool) → Adds (until p (booking_of b)) b (event_table p) (free_table links p) es' t' answer → Added links p (booking_of b) es' t' answer
+  pub added : (es' t' : List ℕ) (answer : Bool) → Adds (until p (booking_of b)) b (events_in n p) (free_in n links p) es' t' answer → Added n links p (booking_of b) es' t' answer
   added es' t' answer h = record {
-    events_are = h.0 ∙ events_added links p (booking_of b) can.few_links can.room;
-    free_are = h.1 ∙ free_added links p (booking_of b) can.few_links can.room can.right;
-    answer_is = rw h.2 (answer_added links p (booking_of b) can.few_links can.room can.right);
+    events_are = h.0 ∙ events_added n links p (booking_of b) can.few_links can.room;
+    free_are = h.1 ∙ free_added n links p (booking_of b) can.few_links can.room can.right;
+    answer_is = rw h.2 (answer_added n links p (booking_of b) can.few_links can.room can.right);
   }

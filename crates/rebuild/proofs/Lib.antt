@@ -2,4 +2,5 @@
 pub mod Along
 pub mod Added
 pub mod Rebuilt
+pub mod Rows
 pub mod RebuiltBook

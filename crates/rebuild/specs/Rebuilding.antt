@@ -1,7 +1,7 @@
 -- What rebuilding gives: the events and free figures of a clock and the first places of a book, booking by booking.
 use Rattle.std.specs.Prelude.{◌≡◌, List, [], ◌∷◌, Bool, ℕ, ◌*◌, ◌≤◌, ◌<◌, length, take, get_or}
 use Rattle.units.specs.Limits.{most_links, most_hops, most_bookings, most_events, place_size, last_minute, longest}
-use Rattle.units.specs.Lists.{all, All, Within}
+use Rattle.units.specs.Lists.{all, All, Within, padded}
 use Rattle.units.specs.Spans.{span_of, release}
 use Rattle.units.specs.declared.Head.{Head}
 use Rattle.free_table.specs.Taking.{less_span}
@@ -9,7 +9,9 @@ use Rattle.free_table.specs.Looking.{enough_span}
 use Rattle.book.specs.declared.Booking.{Booking as Place}
 use Rattle.book.specs.Places.{booking_in}
 use Rattle.units.specs.declared.Link.{Link}
-use Rattle.rules.specs.Tables.{held_by}
+use Rattle.free_table.specs.Figures.{table}
+use Rattle.rules.specs.Plain.{Plain, free}
+use Rattle.rules.specs.Tables.{held_by, events_of}
 use Rattle.rules.specs.Sound.{BookingRight}
 
 -- the links of a place's path, and the minute at which it releases them
@@ -35,12 +37,23 @@ pub record PlaceRight (b : Place) : Type 0 where
   pub count_right : b.count ≤ most_hops
   pub links_right : (i : ℕ) → i < length (place_path b) → get_or (place_path b) i 0 < most_links
 
--- tables of the right sizes, and a book whose places, as many as the head counts, hold right bookings
-pub record CanRebuild (links : List Link) (head : Head) (book es t : List ℕ) : Type 0 where
+-- tables of so many rows, and a book whose places, as many as the head counts, hold right bookings
+pub record CanRebuildIn (rows : ℕ) (links : List Link) (head : Head) (book es t : List ℕ) : Type 0 where
   pub few_links : length links ≤ most_links
-  pub events_sized : length es ≡ most_events
-  pub free_sized : length t ≡ most_events * most_links
+  pub events_sized : length es ≡ rows
+  pub free_sized : length t ≡ rows * most_links
   pub book_sized : length book ≡ most_bookings * place_size
   pub few_bookings : head.bookings ≤ most_bookings
   pub counts_right : (i : ℕ) → i < head.bookings → (booking_in book i).count ≤ most_hops
   pub bookings_right : All (BookingRight links (held_by head book)) (held_by head book).bookings
+
+-- the same of tables of document 01's sizes
+abbrev pub CanRebuild : List Link → Head → List ℕ → List ℕ → List ℕ → Type 0
+CanRebuild = CanRebuildIn most_events
+
+-- the events and the free figures of a plain book in tables of so many rows
+abbrev pub events_in : ℕ → Plain → List ℕ
+events_in rows p = padded rows (events_of p)
+
+abbrev pub free_in : ℕ → List Link → Plain → List ℕ
+free_in rows links p = table rows (length links) (free links p) (events_of p)

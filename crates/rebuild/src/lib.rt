@@ -2,13 +2,13 @@
 // cancelling, moving the clock and the soundness check go through all. Nothing here tests whether a booking is right.
 #![tactic(auto)]
 
-ghost use Rattle.std.specs.Prelude.{◌≡◌, true, ◌↔◌};
+ghost use Rattle.std.specs.Prelude.{◌≡◌, true, ◌↔◌, ◌+◌, ◌*◌, ◌≤◌, length};
 ghost use Rattle.units.specs.Limits.{most_links};
 ghost use Rattle.timeline.specs.Insertion.{with_span, with_span_rows, Room};
 ghost use Rattle.rules.specs.Tables.{held_by, event_table, free_table};
 ghost use Rattle.rules.specs.Desk.{NotOversold};
 ghost use Rattle.free_table.specs.Looking.{TablesSized};
-ghost use Rattle.rebuild.specs.Rebuilding.{place_path, release_of, less_path, enough_path, CanRebuild};
+ghost use Rattle.rebuild.specs.Rebuilding.{place_path, release_of, less_path, enough_path, CanRebuild, CanRebuildIn, events_in, free_in};
 
 mod right;
 
@@ -16,7 +16,7 @@ use book::booking_at;
 use free_table::{FreeTable, Interval, reset_free, take_bandwidth};
 pub use right::RightBooking;
 use timeline::{insert_span, reset_events};
-use units::{Head, Link, LinkNumber, Minute, column, release};
+use units::{Head, Link, LinkNumber, Minute, ROW, column, release};
 
 // Whether every link of a booking's path has its bandwidth free in every minute of an interval.
 fn path_fits(table: FreeTable<'_>, b: RightBooking, minutes: Interval) -> bool
@@ -63,17 +63,19 @@ pub fn add_booking(head: Head, events: &mut [u32], free: &mut [u32], b: RightBoo
     fits
 }
 
-// The events and free figures of a head and its book, whatever the tables held. Answers whether no link is oversold.
-pub fn rebuild(
+// The events and free figures of a head and its book, in tables of as many rows as are lent, whatever they held. Answers whether
+// no link is oversold.
+fn rebuild_rows(
     head: Head,
     links: &[Link],
     events: &mut [u32],
     free: &mut [u32],
     book: &[u32],
 ) -> bool
-    requires { CanRebuild links.now head book.now events.old free.old }
-    ensures { (events.new ≡ event_table (held_by head book.now))
-        × (free.new ≡ free_table links.now (held_by head book.now))
+    requires can { CanRebuildIn (length events.old) links.now head book.now events.old free.old }
+    requires enough { 1 + 2 * head.bookings ≤ length events.old }
+    ensures { (events.new ≡ events_in (length events.old) (held_by head book.now))
+        × (free.new ≡ free_in (length events.old) links.now (held_by head book.now))
         × ((result ≡ true) ↔ NotOversold links.now (held_by head book.now)) }
 {
     let capacities = column(links, |link| link.capacity.0);
@@ -87,4 +89,30 @@ pub fn rebuild(
         fits &= add_booking(head, events, free, b);
     }
     fits
+}
+
+// The same in tables of document 01's sizes. Only rows that can be used are rebuilt, since each event that is put in moves all
+// behind it.
+pub fn rebuild(
+    head: Head,
+    links: &[Link],
+    events: &mut [u32],
+    free: &mut [u32],
+    book: &[u32],
+) -> bool
+    requires { CanRebuild links.now head book.now events.old free.old }
+    ensures { (events.new ≡ event_table (held_by head book.now))
+        × (free.new ≡ free_table links.now (held_by head book.now))
+        × ((result ≡ true) ↔ NotOversold links.now (held_by head book.now)) }
+{
+    let rows = 1 + 2 * head.bookings as usize;
+    events[rows..].fill(0);
+    free[rows * ROW..].fill(0);
+    rebuild_rows(
+        head,
+        links,
+        &mut events[..rows],
+        &mut free[..rows * ROW],
+        book,
+    )
 }

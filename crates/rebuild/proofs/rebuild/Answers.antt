@@ -1,35 +1,32 @@
--- `rebuild` meets its contract: at the loop's head the tables are those of the places from `place` on.
-use mathlib.Core.Path.{◌≡◌, ap, ap₂, ◌∙◌, subst}
-use borrow.Author.Rules.{rules}
-use native.Mathlib.Omega.{arith}
-use lib.ListN.{length}
-use Rattle.timeline.specs.EventTable.{only_clock}
-use Rattle.free_table.specs.Figures.{all_free}
-use Rattle.free_table.proofs.Tables.{all_free_part}
-use Rattle.rebuild.proofs.Rebuilt.{Rebuilt, from_place, from_first, rebuilt_none, right_before, room_before, rebuilt_before}
+-- `rebuild` meets its contract: behind the rows that are rebuilt there are zeros.
+use Rattle.std.proofs.Common.{rules, ◌≡◌, ◌+◌, ◌-◌, ◌*◌, ◌≤◌, ℕ, length, take, replicate, ap, ◌∙◌, arith}
+use borrow.Rule.Slice.PartMut.{put_mid}
+use lib.ListN.{length-map}
+use Rattle.units.specs.Limits.{most_links}
+use Rattle.units.specs.Lists.{count_from}
+use Rattle.units.proofs.Padded.{length_count}
+use Rattle.free_table.proofs.Figures.{length_table_rows}
+use Rattle.rules.specs.Plain.{Plain, free}
+use Rattle.rules.specs.Tables.{events_of, booking_at, held_by}
+use Rattle.rebuild.proofs.Added.{events_few}
+use Rattle.rebuild.proofs.Rows.{padded_further}
 use Rattle.rebuild.proofs.rebuild.Goals as goal
-
-pub loop-place-init : goal.loop-place-init
-loop-place-init c =
-    let a = c.args in
-    let capacities = c.column-capacities.ensures (λ l. l.capacity.0) (λ link value called. search rules) in
-    rebuilt_none a.links.now a.head a.book.now c.requires.few_links _ _
-    (c.reset_events.ensures ∙ ap (λ n. only_clock n a.head.clock.0) c.requires.events_sized)
-    (c.reset_free.ensures ∙ all_free_part _ (length a.links.now) _ ∙ ap₂ (λ n column. all_free n (length a.links.now) column) c.requires.free_sized capacities)
-
-pub invariant_of-b : goal.invariant_of-b
-invariant_of-b c = record { right = right_before c.requires c.booking_at.ensures (omega arith) (omega arith) }
-
-pub add_booking-fits-requires : goal.add_booking-fits-requires
-add_booking-fits-requires c = room_before c.requires c.booking_at.ensures (omega arith) (omega arith) c.loop-place.invariant
-
-pub loop-place-preserved : goal.loop-place-preserved
-loop-place-preserved c = rebuilt_before c.requires c.booking_at.ensures (omega arith) (omega arith) c.loop-place.invariant c.add_booking-fits.ensures
 
 pub returns : goal.returns
 returns c =
     let a = c.args in
-    let first : c.loop-place.place ≡ 0 = omega arith in
-    let whole = ap (from_place a.head a.book.now) first ∙ from_first a.head a.book.now in
-    let r = subst (λ p. Rebuilt a.links.now p c.loop-place.events c.loop-place.free c.loop-place.fits) whole c.loop-place.invariant in
-    (r.events_are, r.free_are, r.answer_is)
+    let n = 1 + 2 * a.head.bookings in
+    let p : Plain = held_by a.head a.book.now in
+    let bookings : length p.bookings ≡ a.head.bookings = length-map (count_from 0 a.head.bookings) (booking_at a.book.now) ∙ length_count 0 a.head.bookings in
+    let few : length (events_of p) ≤ n = omega (arith, events_few p, bookings) in
+    let figures = length_table_rows (length a.links.now) (free a.links.now p) c.requires.few_links (events_of p) in
+    let sized = c.requires in
+    let made = c.rebuild_rows.ensures in
+    let early : c.fill.new.self ≡ replicate (length a.events.now - n) 0 = search rules in
+    let late : c.fill-2.new.self ≡ replicate (length a.free.now - n * most_links) 0 = search rules in
+    let part : ℕ = length (take n (put_mid n (length a.events.now - n) a.events.now c.fill.new.self)) in
+    let rows : part ≡ n = search rules in (
+      padded_further n part _ (events_of p) a.events.now c.fill.new.self c.rebuild_rows.new.events made.0 rows sized.events_sized (omega (arith, sized.few_bookings)) few early,
+      padded_further (n * most_links) (part * most_links) _ _ a.free.now c.fill-2.new.self c.rebuild_rows.new.free made.1 (ap (λ k. k * most_links) rows) sized.free_sized (omega (arith, sized.few_bookings)) (omega (arith, figures, few)) late,
+      made.2,
+    )
