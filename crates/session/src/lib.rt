@@ -43,6 +43,8 @@ fn run_one<W: Output>(
     requires fine { Fine desk.old.links.now (tables_of desk.old) }
     requires within { lines.old.used ≤ length lines.old.bytes }
     requires counted { lines.old.place + 1 < 2 ^ 64 }
+    requires intact { W.intact output.old ≡ true }
+    ensures intact { OnOk result (W.intact output.new ≡ true) }
     ensures fine { Fine desk.new.links.now (tables_of desk.new) }
     ensures within { OnOk result (lines.new.used ≤ length lines.new.bytes) }
     ensures runs { OnOk result (running desk.new lines.new ≡ behind (running desk.old lines.old) order.now) }
@@ -68,6 +70,8 @@ fn run_orders<W: Output>(
     requires fine { Fine desk.old.links.now (tables_of desk.old) }
     requires within { lines.old.used ≤ length lines.old.bytes }
     requires counted { lines.old.place + length orders.now < 2 ^ 64 }
+    requires intact { W.intact output.old ≡ true }
+    ensures intact { OnOk result (W.intact output.new ≡ true) }
     ensures fine { Fine desk.new.links.now (tables_of desk.new) }
     ensures within { OnOk result (lines.new.used ≤ length lines.new.bytes) }
     ensures runs { OnOk result (running desk.new lines.new ≡ after (running desk.old lines.old) orders.now) }
@@ -95,6 +99,8 @@ fn answer_whole<W: Output>(
     requires fine { Fine desk.old.links.now (tables_of desk.old) }
     requires none { lines.old.used ≡ 0 }
     requires counted { lines.old.place + length bytes.now / order_bytes < 2 ^ 64 }
+    requires intact { W.intact output.old ≡ true }
+    ensures intact { OnOk result (W.intact output.new ≡ true) }
     ensures fine { Fine desk.new.links.now (tables_of desk.new) }
     ensures none { OnOk result (lines.new.used ≡ 0) }
     ensures runs { OnOk result (running desk.new lines.new ≡ after (running desk.old lines.old) (whole_orders bytes.now)) }
@@ -118,6 +124,7 @@ fn answer_last<W: Output>(
     requires fine { Fine desk.old.links.now (tables_of desk.old) }
     requires none { lines.old.used ≡ 0 }
     requires counted { lines.old.place + 1 < 2 ^ 64 }
+    requires intact { W.intact output.old ≡ true }
     ensures fine { Fine desk.new.links.now (tables_of desk.new) }
     ensures written { OnOk result (Appends (W.contents output.old) (W.contents output.new) (lines_of (running desk.old lines.old) (last_piece piece.now))) }
     ensures front { OnErr result (AppendsFront (W.contents output.old) (W.contents output.new) (lines_of (running desk.old lines.old) (last_piece piece.now))) }
@@ -143,6 +150,9 @@ fn answer_some<R: Input, W: Output>(
     requires kept { block.old.kept < order_bytes }
     requires none { lines.old.used ≡ 0 }
     requires counted { lines.old.place + most_orders < 2 ^ 64 }
+    requires intact { W.intact output.old ≡ true }
+    ensures intact { IfOk result (λ more. more ≡ true → W.intact output.new ≡ true) }
+    ensures once { R.once input.old input.new ≡ true }
     ensures fine { Fine desk.new.links.now (tables_of desk.new) }
     ensures kept { OnOk result (block.new.kept < order_bytes) }
     ensures none { IfOk result (λ more. more ≡ true → lines.new.used ≡ 0) }
@@ -172,6 +182,7 @@ fn run_all<R: Input, W: Output>(
     desk: &mut Desk<'_>,
 ) -> io::Result<bool>
     requires fine { Fine desk.old.links.now (tables_of desk.old) }
+    requires intact { W.intact output.old ≡ true }
     ensures long { IfOk result (λ ended. ended ≡ false → Long (R.remaining input.old)) }
     ensures whole { IfOk result (λ ended. ended ≡ true → IfSome (R.remaining input.old) (λ bytes. Appends (W.contents output.old) (W.contents output.new) (lines_of (at_place desk.old 1) (orders bytes)))) }
     ensures front { IfSome (R.remaining input.old) (λ bytes. AppendsFront (W.contents output.old) (W.contents output.new) (lines_of (at_place desk.old 1) (orders bytes))) }
@@ -189,6 +200,8 @@ fn run_all<R: Input, W: Output>(
 
 // Writes the desk's own line.
 fn write_start<W: Output>(output: &mut W, opened: Result<u32, Refusal>) -> io::Result<()>
+    requires intact { W.intact output.old ≡ true }
+    ensures intact { OnOk result (W.intact output.new ≡ true) }
     ensures whole { OnOk result (Appends (W.contents output.old) (W.contents output.new) (line 0 (desk_report opened) [])) }
     ensures front { AppendsFront (W.contents output.old) (W.contents output.new) (line 0 (desk_report opened) []) }
     ensures fails { OnErr result (W.failed output.new ≡ true) }
@@ -205,6 +218,7 @@ fn run_opened<R: Input, W: Output>(
     desk: &mut Desk<'_>,
 ) -> io::Result<bool>
     requires fine { Fine desk.old.links.now (tables_of desk.old) }
+    requires intact { W.intact output.old ≡ true }
     ensures long { IfOk result (λ ended. ended ≡ false → Long (R.remaining input.old)) }
     ensures whole { IfOk result (λ ended. ended ≡ true → IfSome (R.remaining input.old) (λ bytes. Appends (W.contents output.old) (W.contents output.new) (opened_lines (at_place desk.old 1) bytes))) }
     ensures front { IfSome (R.remaining input.old) (λ bytes. AppendsFront (W.contents output.old) (W.contents output.new) (opened_lines (at_place desk.old 1) bytes)) }
@@ -224,7 +238,8 @@ fn run_on<R: Input, W: Output>(
     free: &mut [u32],
     book: &mut [u32],
 ) -> io::Result<bool>
-    requires { lent head.old events.old free.old book.old ≡ blank }
+    requires blank { lent head.old events.old free.old book.old ≡ blank }
+    requires intact { W.intact output.old ≡ true }
     ensures long { IfOk result (λ ended. ended ≡ false → IfSome (R.remaining input.old) (λ bytes. 2 ^ 51 ≤ length bytes)) }
     ensures whole { IfOk result (λ ended. ended ≡ true → IfSome (R.remaining input.old) (λ bytes. Appends (W.contents output.old) (W.contents output.new) (session bytes))) }
     ensures front { IfSome (R.remaining input.old) (λ bytes. AppendsFront (W.contents output.old) (W.contents output.new) (session bytes)) }
@@ -254,6 +269,7 @@ fn run_on<R: Input, W: Output>(
 // does not. Where a read or a write fails, some of the output is written, from the first byte on.
 #[tactic(auto, unfolding(crate::specs::Session::blank))]
 pub fn run_session<R: Input, W: Output>(input: &mut R, output: &mut W) -> io::Result<bool>
+    requires intact { W.intact output.old ≡ true }
     ensures long { IfOk result (λ ended. ended ≡ false → IfSome (R.remaining input.old) (λ bytes. 2 ^ 51 ≤ length bytes)) }
     ensures whole { IfOk result (λ ended. ended ≡ true → IfSome (R.remaining input.old) (λ bytes. Appends (W.contents output.old) (W.contents output.new) (session bytes))) }
     ensures front { IfSome (R.remaining input.old) (λ bytes. AppendsFront (W.contents output.old) (W.contents output.new) (session bytes)) }

@@ -1,25 +1,30 @@
-// Reading: once, until a buffer is full, and the first bytes of a session. A read that a signal interrupts is tried again.
+// Reading: once, until a buffer is full, and the first bytes of a session. The session calls it; nothing here looks at an order.
 
 ghost use Rattle.std.specs.Prelude.{◌≡◌, ◌≤◌, ◌<◌, length, take, IfOk};
 ghost use Rattle.std.specs.Io.{ReadsAtMost};
 ghost use Rattle.std.specs.Prelude.{Bool, true, OnErr};
-ghost use Rattle.std.specs.Io.KnownBytes.{Consumes, IsAtEnd, ReadConsumes};
+ghost use Rattle.std.specs.Io.KnownBytes.{Consumes, IsAtEnd};
 ghost use Rattle.layout.specs.Layout.{order_bytes};
 ghost use Rattle.session.specs.Session.{cut_short};
 ghost use Rattle.session.specs.Streaming.{ComesBehind, TakesStart, kept, block_bytes};
 
 use layout::{FIRST_BYTES, LEAD_BYTES, ORDER_BYTES};
 use opening::records_size;
-use std::io::{self, ErrorKind, Read, Stdin};
+use std::io::{self, Read, Stdin};
 
-// A reader, and whether a read of it may have failed. Where nothing is known of that, one may have at any time; bytes in memory have
-// none that does.
+// A reader, with what its type may know of its reads: whether one of them may have failed, and whether one read alone took it from one
+// state to another. Where nothing is known, both may be at any time; bytes in memory have no read that fails.
 pub trait Input: Read {
     ghost failed: { Self → Bool } = { λ _. true };
 
+    ghost once: { Self → Self → Bool } = { λ _ _. true };
+
+    // Reads once, and answers how many bytes came; none only at the input's end.
     fn read_once(&mut self, buffer: &mut [u8]) -> io::Result<usize>
         ensures bound { ReadsAtMost result buffer.new }
-        ensures bytes { ReadConsumes (Self.remaining self.old) (Self.remaining self.new) result buffer.new }
+        ensures came { IfOk result (λ n. Consumes (Self.remaining self.old) (Self.remaining self.new) (take n buffer.new)) }
+        ensures end { IfOk result (λ n. n ≡ 0 → 0 < length buffer.old → IsAtEnd (Self.remaining self.new)) }
+        ensures once { once self.old self.new ≡ true }
         ensures fails { OnErr result (failed self.new ≡ true) };
 }
 
@@ -27,22 +32,6 @@ impl Input for Stdin {
     fn read_once(&mut self, buffer: &mut [u8]) -> io::Result<usize> {
         self.read(buffer)
     }
-}
-
-// Reads once, and answers how many bytes came; none only at the input's end.
-pub(crate) fn read_some<R: Input>(input: &mut R, buffer: &mut [u8]) -> io::Result<usize>
-    ensures bound { ReadsAtMost result buffer.new }
-    ensures came { IfOk result (λ n. Consumes (R.remaining input.old) (R.remaining input.new) (take n buffer.new)) }
-    ensures end { IfOk result (λ n. n ≡ 0 → 0 < length buffer.old → IsAtEnd (R.remaining input.new)) }
-    ensures fails { OnErr result (R.failed input.new ≡ true) }
-{
-    for _ in 0..u64::MAX {
-        match input.read_once(buffer) {
-            Err(error) if error.kind() == ErrorKind::Interrupted => {}
-            read => return read,
-        }
-    }
-    Err(io::Error::from(ErrorKind::TimedOut))
 }
 
 // Reads until the buffer is full or the input ends, and answers how many bytes stand at its start then.
@@ -54,7 +43,7 @@ pub(crate) fn read_full<R: Input>(input: &mut R, buffer: &mut [u8]) -> io::Resul
 {
     let mut done = 0;
     while done < buffer.len() {
-        match read_some(input, &mut buffer[done..])? {
+        match input.read_once(&mut buffer[done..])? {
             0 => return Ok(done),
             came => done += came,
         }
@@ -92,8 +81,9 @@ impl Block {
         ensures came { IfOk result (λ size. ComesBehind (R.remaining input.old) (R.remaining input.new) (kept self.old) (take size self.new.bytes)) }
         ensures end { IfOk result (λ size. size ≡ self.old.kept → IsAtEnd (R.remaining input.new)) }
         ensures fails { OnErr result (R.failed input.new ≡ true) }
+        ensures once { R.once input.old input.new ≡ true }
     {
-        let came = read_some(input, &mut self.bytes[self.kept..])?;
+        let came = input.read_once(&mut self.bytes[self.kept..])?;
         Ok(self.kept + came)
     }
 

@@ -1,4 +1,4 @@
-// Lines that are to be written, and writing them. A write that a signal interrupts is tried again.
+// Lines that are to be written, and writing them. The session calls it; nothing here runs an order.
 
 ghost use Rattle.std.specs.Prelude.{◌≡◌, ◌+◌, ◌≤◌, ◌<◌, Bool, true, length, IfOk, OnOk, OnErr};
 ghost use Rattle.std.specs.Io.{WritesAtMost};
@@ -12,15 +12,19 @@ use std::io::{self, ErrorKind, Stdout, Write};
 // The bytes of the buffer of lines.
 const LINES_BYTES: usize = 65_536;
 
-// A writer, and whether a write of it may have failed. Where nothing is known of that, one may have at any time; a list in memory has
-// none that does.
+// A writer, with what its type may know of its writes: whether one may have failed, and that none has, without which none is made.
+// Where nothing is known, one may have failed at any time and yet another be made.
 pub trait Output: Write {
     ghost failed: { Self → Bool } = { λ _. true };
 
+    ghost intact: { Self → Bool } = { λ _. true };
+
+    // Writes some of the bytes, from the first on, and answers how many; of bytes that there are none only where a write fails.
     fn write_once(&mut self, bytes: &[u8]) -> io::Result<usize>
+        requires { intact self.old ≡ true }
         ensures bound { WritesAtMost result bytes.now }
-        ensures bytes { WriteAppends (Self.contents self.old) (Self.contents self.new) result bytes.now }
-        ensures stays { failed self.old ≡ true → failed self.new ≡ true }
+        ensures written { WriteAppends (Self.contents self.old) (Self.contents self.new) result bytes.now }
+        ensures intact { OnOk result (intact self.new ≡ true) }
         ensures none { IfOk result (λ n. n ≡ 0 → 0 < length bytes.now → failed self.new ≡ true) }
         ensures fails { OnErr result (failed self.new ≡ true) };
 }
@@ -31,36 +35,22 @@ impl Output for Stdout {
     }
 }
 
-// Writes some of the bytes, from the first on, and answers how many; none where a signal interrupts it.
-fn write_some<W: Output>(output: &mut W, bytes: &[u8]) -> io::Result<usize>
-    requires { 0 < length bytes.now }
-    ensures bound { WritesAtMost result bytes.now }
-    ensures written { WriteAppends (W.contents output.old) (W.contents output.new) result bytes.now }
-    ensures stays { W.failed output.old ≡ true → W.failed output.new ≡ true }
-    ensures none { IfOk result (λ n. n ≡ 0 → W.failed output.new ≡ true) }
-    ensures fails { OnErr result (W.failed output.new ≡ true) }
-{
-    match output.write_once(bytes) {
-        Ok(0) => Err(io::Error::from(ErrorKind::WriteZero)),
-        Err(error) if error.kind() == ErrorKind::Interrupted => Ok(0),
-        written => written,
-    }
-}
-
 // Writes the bytes: all of them, or where a write fails some, from the first on.
 pub(crate) fn write_whole<W: Output>(output: &mut W, bytes: &[u8]) -> io::Result<()>
+    requires { W.intact output.old ≡ true }
+    ensures intact { OnOk result (W.intact output.new ≡ true) }
     ensures whole { OnOk result (Appends (W.contents output.old) (W.contents output.new) bytes.now) }
     ensures front { AppendsFront (W.contents output.old) (W.contents output.new) bytes.now }
     ensures fails { OnErr result (W.failed output.new ≡ true) }
 {
     let mut done = 0;
-    for _ in 0..u64::MAX {
-        if done == bytes.len() {
-            return Ok(());
+    while done < bytes.len() {
+        match output.write_once(&bytes[done..])? {
+            0 => return Err(io::Error::from(ErrorKind::WriteZero)),
+            written => done += written,
         }
-        done += write_some(output, &bytes[done..])?;
     }
-    Err(io::Error::from(ErrorKind::TimedOut))
+    Ok(())
 }
 
 // The lines that are to be written, and the place of the next.
@@ -86,7 +76,9 @@ impl Lines {
 
     // Writes the lines out and begins the buffer again.
     pub(crate) fn write_out<W: Output>(&mut self, output: &mut W) -> io::Result<()>
-        requires { self.old.used ≤ length self.old.bytes }
+        requires within { self.old.used ≤ length self.old.bytes }
+        requires intact { W.intact output.old ≡ true }
+        ensures intact { OnOk result (W.intact output.new ≡ true) }
         ensures place { self.new.place ≡ self.old.place }
         ensures none { OnOk result (self.new.used ≡ 0) }
         ensures room { OnOk result (self.new.used + max_line ≤ length self.new.bytes) }
@@ -101,7 +93,9 @@ impl Lines {
 
     // Writes the lines out where another might not fit behind them.
     pub(crate) fn make_room<W: Output>(&mut self, output: &mut W) -> io::Result<()>
-        requires { self.old.used ≤ length self.old.bytes }
+        requires within { self.old.used ≤ length self.old.bytes }
+        requires intact { W.intact output.old ≡ true }
+        ensures intact { OnOk result (W.intact output.new ≡ true) }
         ensures place { self.new.place ≡ self.old.place }
         ensures room { OnOk result (self.new.used + max_line ≤ length self.new.bytes) }
         ensures moves { OnOk result (Moves (W.contents output.old) (W.contents output.new) (pending self.old) (pending self.new)) }

@@ -1,5 +1,5 @@
 -- What was written, and what is due of the rest of the input, are all lines.
-use Rattle.std.proofs.Common.{◌≡◌, ◌+◌, ◌*◌, ◌≤◌, ◌<◌}
+use Rattle.std.proofs.Common.{◌≡◌, ◌+◌, ◌*◌, ◌≤◌, ◌<◌, true}
 use Rattle.rules.specs.Tables.{Fine}
 use Rattle.lent.specs.Lent.{tables_of}
 use Rattle.layout.specs.Layout.{order_bytes}
@@ -9,7 +9,8 @@ use Rattle.session.proofs.run_all.Given as goal
 
 abbrev pub invariant-loop : goal.invariant-loop
 invariant-loop g l =
-    Fine l.desk.links.now (tables_of l.desk)
+    (g.W.Output.intact l.output ≡ true)
+    × Fine l.desk.links.now (tables_of l.desk)
     × (l.block.kept < order_bytes)
     × (l.lines.used ≡ 0)
     × (l.lines.place ≤ 1 + l.counter * most_orders)

@@ -17,19 +17,19 @@ pub returns-in_err-write_start-in-Err-clause-front : goal.returns-in_err-write_s
 returns-in_err-write_start-in-Err-clause-front g c =
     let size = c.in_ok-size in
     let P : List ℕ → Type 0 = λ bytes. AppendsFront (g.W.Write.contents c.args.output.now) (g.W.Write.contents c.write_start.new.output) bytes in
-    session_refused (g.R.Read.remaining c.args.input.now) (g.R.Read.remaining c.read_start.new.input) (take size.size c.read_start.new.first) size.ensures.start _ c.requires P _ c.in-Err.ensures.refusal (numbered c.in-Err.refusal) c.in_err-write_start-in-Err.ensures.front
+    session_refused (g.R.Read.remaining c.args.input.now) (g.R.Read.remaining c.read_start.new.input) (take size.size c.read_start.new.first) size.ensures.start _ c.requires.blank P _ c.in-Err.ensures.refusal (numbered c.in-Err.refusal) c.in_err-write_start-in-Err.ensures.front
 
 pub returns-in_ok-write_start-in-Err-clause-whole : goal.returns-in_ok-write_start-in-Err-clause-whole
 returns-in_ok-write_start-in-Err-clause-whole g c e =
     let size = c.in_ok-size in
     let P : List ℕ → Type 0 = λ bytes. Appends (g.W.Write.contents c.args.output.now) (g.W.Write.contents c.write_start.new.output) bytes in
-    session_refused (g.R.Read.remaining c.args.input.now) (g.R.Read.remaining c.read_start.new.input) (take size.size c.read_start.new.first) size.ensures.start _ c.requires P _ c.in-Err.ensures.refusal (numbered c.in-Err.refusal) c.in_ok-write_start-in-Err.ensures.whole
+    session_refused (g.R.Read.remaining c.args.input.now) (g.R.Read.remaining c.read_start.new.input) (take size.size c.read_start.new.first) size.ensures.start _ c.requires.blank P _ c.in-Err.ensures.refusal (numbered c.in-Err.refusal) c.in_ok-write_start-in-Err.ensures.whole
 
 pub returns-in_ok-write_start-in-Err-clause-front : goal.returns-in_ok-write_start-in-Err-clause-front
 returns-in_ok-write_start-in-Err-clause-front g c =
     let size = c.in_ok-size in
     let P : List ℕ → Type 0 = λ bytes. AppendsFront (g.W.Write.contents c.args.output.now) (g.W.Write.contents c.write_start.new.output) bytes in
-    session_refused (g.R.Read.remaining c.args.input.now) (g.R.Read.remaining c.read_start.new.input) (take size.size c.read_start.new.first) size.ensures.start _ c.requires P _ c.in-Err.ensures.refusal (numbered c.in-Err.refusal) c.in_ok-write_start-in-Err.ensures.front
+    session_refused (g.R.Read.remaining c.args.input.now) (g.R.Read.remaining c.read_start.new.input) (take size.size c.read_start.new.first) size.ensures.start _ c.requires.blank P _ c.in-Err.ensures.refusal (numbered c.in-Err.refusal) c.in_ok-write_start-in-Err.ensures.front
 
 pub returns-in-Ok-clause-whole : goal.returns-in-Ok-clause-whole
 returns-in-Ok-clause-whole g c =
@@ -37,7 +37,7 @@ returns-in-Ok-clause-whole g c =
     let left = c.open_desk.new in
     let P : List ℕ → Type 0 = λ bytes. Appends (g.W.Write.contents c.args.output.now) (g.W.Write.contents c.run_opened.new.output) bytes in
     let r : Running = at_first c.in-Ok.links.now (lent left.head left.events left.free left.book) in
-    let whole = session_accepted (g.R.Read.remaining c.args.input.now) (g.R.Read.remaining c.read_start.new.input) (take size.size c.read_start.new.first) size.ensures.start _ c.requires P r c.in-Ok.ensures.refusal (ap₂ at_first c.in-Ok.ensures.links c.in-Ok.ensures.tables) in
+    let whole = session_accepted (g.R.Read.remaining c.args.input.now) (g.R.Read.remaining c.read_start.new.input) (take size.size c.read_start.new.first) size.ensures.start _ c.requires.blank P r c.in-Ok.ensures.refusal (ap₂ at_first c.in-Ok.ensures.links c.in-Ok.ensures.tables) in
     search (rules, whole)
 
 pub returns-in-Ok-clause-front : goal.returns-in-Ok-clause-front
@@ -46,5 +46,5 @@ returns-in-Ok-clause-front g c =
     let left = c.open_desk.new in
     let P : List ℕ → Type 0 = λ bytes. AppendsFront (g.W.Write.contents c.args.output.now) (g.W.Write.contents c.run_opened.new.output) bytes in
     let r : Running = at_first c.in-Ok.links.now (lent left.head left.events left.free left.book) in
-    let fails = session_accepted (g.R.Read.remaining c.args.input.now) (g.R.Read.remaining c.read_start.new.input) (take size.size c.read_start.new.first) size.ensures.start _ c.requires P r c.in-Ok.ensures.refusal (ap₂ at_first c.in-Ok.ensures.links c.in-Ok.ensures.tables) in
+    let fails = session_accepted (g.R.Read.remaining c.args.input.now) (g.R.Read.remaining c.read_start.new.input) (take size.size c.read_start.new.first) size.ensures.start _ c.requires.blank P r c.in-Ok.ensures.refusal (ap₂ at_first c.in-Ok.ensures.links c.in-Ok.ensures.tables) in
     search (rules, fails)

@@ -23,7 +23,7 @@ returns-in_err-run_one-clause-front g c =
     let k = (goal.at.returns-in_err-run_one-clause-front g c).After-run_one in
     let l = c.loop-order in
     let all = pending c.args.lines.now ++ lines (running c.args.desk.now c.args.lines.now) c.args.orders.now in
-    let (fine, within, place, behind_it, moved) = l.invariant in
+    let (intact, fine, within, place, behind_it, moved) = l.invariant in
     let fails : AppendsFront (g.W.Write.contents c.args.output.now) (g.W.Write.contents c.run_one.new.output) all =
     one_fails (running l.desk l.lines) (next g k) (rest g k) _ (here g k) (g.W.Write.contents c.args.output.now) (g.W.Write.contents l.output) (g.W.Write.contents c.run_one.new.output) all (pending l.lines) moved c.in_err-run_one.ensures.front in
     search (rules, fails)
@@ -33,9 +33,10 @@ loop-order-preserved g c =
     let k = (goal.at.loop-order-preserved g c).After-run_one in
     let l = c.loop-order in
     let all = pending c.args.lines.now ++ lines (running c.args.desk.now c.args.lines.now) c.args.orders.now in
-    let (fine, within, place, behind_it, moved) = l.invariant in
+    let (intact, fine, within, place, behind_it, moved) = l.invariant in
     let run = c.in_ok-run_one.ensures in
     let now = running c.run_one.new.desk c.run_one.new.lines in (
+      run.intact,
       run.fine,
       run.within,
       omega (arith, ap (λ x. x.place) run.runs, place),
@@ -46,12 +47,12 @@ loop-order-preserved g c =
 pub returns-clause-runs : goal.returns-clause-runs
 returns-clause-runs g c =
     let l = c.loop-order in
-    let (fine, within, place, behind_it, moved) = l.invariant in
+    let (intact, fine, within, place, behind_it, moved) = l.invariant in
     all_run (running l.desk l.lines) _ (drop_of_length-le c.args.orders.now (search rules)) (running c.args.desk.now c.args.lines.now) c.args.orders.now behind_it
 
 pub returns-clause-moves : goal.returns-clause-moves
 returns-clause-moves g c =
     let l = c.loop-order in
     let all = pending c.args.lines.now ++ lines (running c.args.desk.now c.args.lines.now) c.args.orders.now in
-    let (fine, within, place, behind_it, moved) = l.invariant in
+    let (intact, fine, within, place, behind_it, moved) = l.invariant in
     all_moved (running l.desk l.lines) _ (drop_of_length-le c.args.orders.now (search rules)) (g.W.Write.contents c.args.output.now) (g.W.Write.contents l.output) all (pending l.lines) moved

@@ -1,5 +1,5 @@
 -- What is written and pending, and the lines of the orders that are left, are all that was pending and all orders' lines.
-use Rattle.std.proofs.Common.{◌≡◌, ◌+◌, ◌≤◌, ◌++◌, length, drop}
+use Rattle.std.proofs.Common.{◌≡◌, ◌+◌, ◌≤◌, ◌++◌, length, drop, true}
 use Rattle.rules.specs.Tables.{Fine}
 use Rattle.lent.specs.Lent.{tables_of}
 use Rattle.session.specs.Session.{lines, after}
@@ -11,7 +11,8 @@ invariant-loop-order g l =
     let r = running l.desk l.lines in
     let first = running l.initial.desk l.initial.lines in
     let left = drop l.order-index l.orders in
-    Fine l.desk.links.now (tables_of l.desk)
+    (g.W.Output.intact l.output ≡ true)
+    × Fine l.desk.links.now (tables_of l.desk)
     × (l.lines.used ≤ length l.lines.bytes)
     × (l.lines.place ≡ l.initial.lines.place + l.order-index)
     × (after r left ≡ after first l.orders)

@@ -9,4 +9,4 @@ pub loop-done-preserved : goal.loop-done-preserved
 loop-done-preserved g c =
     let l = c.loop-done in
     let (within, long, had) = l.invariant in
-    (search rules, search rules, subst (Consumes _ _) (sym (came_more l.done c.in_ok-came.came l.buffer c.read_some.new.buffer within (search rules))) (Consumes-trans _ _ _ _ _ had c.in_ok-came.ensures.came))
+    (search rules, search rules, subst (Consumes _ _) (sym (came_more l.done c.in_ok-came.came l.buffer c.read_once.new.buffer within (search rules))) (Consumes-trans _ _ _ _ _ had c.in_ok-came.ensures.came))
