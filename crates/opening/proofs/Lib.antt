@@ -1,3 +1,2 @@
 pub mod Records
 pub mod First
-pub mod Fine

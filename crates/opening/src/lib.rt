@@ -1,4 +1,4 @@
-// The first bytes of a session to its desk and the desk's own line. The program `run_orders` calls `open_desk`, and decides
+// The first bytes of a session to its desk and the desk's own line. The crate `session` calls `open_desk`, and decides
 // nothing itself. Every input is answered.
 #![tactic(auto)]
 

@@ -1,4 +1,4 @@
-// One order's bytes and a desk to the order's answer and its line. The program `run_orders` calls `run_order`, and
+// One order's bytes and a desk to the order's answer and its line. The crate `session` calls `run_order`, and
 // decides nothing itself. The tables are sound, and stay so, hence no order checks them. Every input is answered; an order that
 // is refused changes nothing.
 #![tactic(auto)]

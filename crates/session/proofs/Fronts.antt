@@ -1,29 +1,20 @@
 -- What is written of some bytes, from the first on, where one write comes after another.
-use Rattle.std.proofs.Common.{◌++◌, ◌+◌, ℕ, List, [], length, take, sym, ap, ◌∙◌, subst, arith, append_assoc, append-nil}
+use Rattle.std.proofs.Common.{◌++◌, ◌+◌, ℕ, List, length, take, sym, ap, ◌∙◌, subst, arith, append_assoc}
 use Rattle.std.specs.Prelude.{Option}
 use native.Mathlib.Decide.{dec_lt}
-use Rattle.std.specs.Io.KnownBytes.{Appends, Keeps}
-use Rattle.std.proofs.KnownBytes.{Appends-trans, Appends-nil, Appends-kept}
+use Rattle.std.specs.Io.KnownBytes.{Appends}
+use Rattle.std.proofs.KnownBytes.{Appends-trans}
 use Rattle.std.proofs.lemmas.List.{take-append-le, take_all}
 use Rattle.std.proofs.Math.Seq.{take-append-add, take-append_seam}
 use Rattle.session.specs.Streaming.{AppendsFront, Moves}
 
 module _ (a b : Option (List ℕ)) (xs : List ℕ) where
-  -- all of the bytes are a front of them, and so are none; a front of some bytes is one of those and more behind them
-  pub front_none : Keeps a b → AppendsFront a b xs
-  front_none h = (0, Appends-kept a a b [] (Appends-nil a) h)
-
-  pub front_all : Appends a b xs → AppendsFront a b xs
-  front_all h = (length xs, subst (Appends a b) (sym (take_all (length xs) xs (omega arith))) h)
-
+  -- a front of some bytes is one of those and more behind them
   pub front_more : (ys : List ℕ) → AppendsFront a b xs → AppendsFront a b (xs ++ ys)
   front_more ys (n, h) = elim (dec_lt (length xs) n) [
     | yes k ↦ (length xs, subst (Appends a b) (take_all n xs (omega (arith, k)) ∙ sym (take-append_seam xs ys)) h)
     | no k ↦ (n, subst (Appends a b) (sym (take-append-le n xs ys (omega (arith, k)))) h)
   ]
-
-  pub moves_all : Appends a b xs → Moves a b xs []
-  moves_all h = (xs, h, sym (append-nil xs))
 
   module _ (ys : List ℕ) where
     pub moves_more : (zs : List ℕ) → Moves a b xs ys → Moves a b (xs ++ zs) (ys ++ zs)

@@ -35,9 +35,6 @@ after_place r (x ∷ xs) = let h = after_place (behind r x) xs in omega arith
 
 -- ---- bytes to orders
 
-pub cut_short_length : (bytes : List ℕ) → length (cut_short bytes) < order_bytes
-cut_short_length bytes = rw length-drop (omega arith)
-
 -- fewer bytes than an order's
 pub orders_short : (bytes : List ℕ) → length bytes < order_bytes → orders bytes ≡ last_piece bytes
 unfolding orders

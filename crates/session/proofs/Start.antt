@@ -12,7 +12,7 @@ use Rattle.opening.proofs.First.{size_counted, size_uncounted}
 use Rattle.session.specs.Streaming.{TakesStart}
 
 -- the first byte alone tells the size
-size_front : (start rest : List ℕ) → 1 ≤ length start → first_size (start ++ rest) ≡ first_size start
+pub size_front : (start rest : List ℕ) → 1 ≤ length start → first_size (start ++ rest) ≡ first_size start
 unfolding first_size
 size_front [] rest h = absurd (omega (arith, h))
 size_front (b ∷ bs) rest h = refl

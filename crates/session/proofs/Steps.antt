@@ -1,12 +1,11 @@
 -- From one read to the next: what has come is answered, but for the bytes that are cut short.
-use Rattle.std.proofs.Common.{◌≡◌, ◌++◌, ◌+◌, ◌^◌, ◌<◌, ◌≤◌, ℕ, List, [], length, take, refl, sym, ap, ap₂, ◌∙◌, subst, arith, append_assoc, append-nil, length-append, drop_of_length-le, false}
+use Rattle.std.proofs.Common.{◌≡◌, ◌++◌, ◌+◌, ◌<◌, ℕ, List, [], length, take, sym, ap, ap₂, ◌∙◌, subst, arith, append_assoc, append-nil, length-append, drop_of_length-le, false}
 use Rattle.std.specs.Prelude.{Option, None, Some, IfSome}
 use Rattle.std.specs.Io.KnownBytes.{Appends, Consumes, IsAtEnd}
-use Rattle.std.proofs.KnownBytes.{Appends-nil}
 use Rattle.std.proofs.Math.Seq.{take-append_seam}
 use Rattle.layout.specs.Layout.{order_bytes}
 use Rattle.session.specs.Session.{Running, lines, after, whole_orders, cut_short, last_piece, orders}
-use Rattle.session.specs.Streaming.{ComesBehind, AppendsFront, Goes, Taken, Long, due, due_if}
+use Rattle.session.specs.Streaming.{ComesBehind, AppendsFront, Goes, Taken, due, due_if}
 use Rattle.session.proofs.Fronts.{front_more, front_after, moves_then}
 use Rattle.session.proofs.Orders.{lines_append, orders_more, orders_short}
 
@@ -68,14 +67,6 @@ module _ (in_old in_new out_old out_new : Option (List ℕ)) (r : Running) (befo
         by (Some bytes) (Some rest) c end = subst (AppendsFront out_old out_new) (sym (ap (due r before) c ∙ due_last came e rest end)) w
 
 module _ (a b x y : Option (List ℕ)) (before : List ℕ → List ℕ) where
-  -- at the start nothing is read and nothing written
-  pub goes_none : Goes a a x x before before
-  goes_none = by a
-    where
-      by : (o : Option (List ℕ)) → Goes o o x x before before
-      by None = tt
-      by (Some bytes) = ([], Appends-nil x, refl)
-
   module _ (mid : List ℕ → List ℕ) (goes : Goes a b x y before mid) where
     pub goes_then : (c z : Option (List ℕ)) (after : List ℕ → List ℕ) → Goes b c y z mid after → Goes a c x z before after
     goes_then c z after = by a b c goes
@@ -112,23 +103,8 @@ module _ (a b x y : Option (List ℕ)) (before : List ℕ → List ℕ) where
       by (Some bytes) (Some rest) (v, h, e) = subst (Appends x y) (sym (e ∙ append-nil v)) h
 
 -- bytes that were taken off an input, turn by turn
-pub taken_none : (a : Option (List ℕ)) → Taken 0 a a
-taken_none None = tt
-taken_none (Some bytes) = omega arith
-
 pub taken_more : (n m : ℕ) (a b c : Option (List ℕ)) → Taken n a b → Taken m b c → Taken (n + m) a c
 taken_more n m None b c s t = tt
 taken_more n m (Some bytes) None c s t = absurd s
 taken_more n m (Some bytes) (Some rest) None s t = t
 taken_more n m (Some bytes) (Some rest) (Some left) s t = omega (arith, s, t)
-
-pub taken_long : (n : ℕ) (a b : Option (List ℕ)) → 2 ^ 51 ≤ n → Taken n a b → Long a
-taken_long n None b h t = tt
-taken_long n (Some bytes) None h t = absurd t
-taken_long n (Some bytes) (Some rest) h t = omega (arith, h, t)
-
--- a read that leaves more bytes in the block has taken some
-pub came_taken : (a b : Option (List ℕ)) (before all : List ℕ) → ComesBehind a b before all → length before < length all → Taken 1 a b
-came_taken None b before all c h = tt
-came_taken (Some bytes) None before all (came, c, e) h = c
-came_taken (Some bytes) (Some rest) before all (came, c, e) h = omega (arith, h, ap length c, ap length e, length-append came rest, length-append before came)

@@ -12,8 +12,8 @@ use Rattle.rules.specs.Tables.{Tables}
 use Rattle.opening.specs.Opened.{Opened, opened, first_size}
 use Rattle.opening.proofs.First.{opened_first}
 use Rattle.session.specs.Session.{Running, lines, orders, blank, started, output, session, opened_lines}
-use Rattle.session.specs.Streaming.{TakesStart, AppendsFront}
-use Rattle.session.proofs.Fronts.{front_all, front_more, front_then}
+use Rattle.session.specs.Streaming.{TakesStart, StopsAtStart, AppendsFront}
+use Rattle.session.proofs.Fronts.{front_more, front_then}
 
 -- what the first bytes give is what all bytes give
 same_opened : (t : Tables) (bytes start : List ℕ) → t ≡ blank → start ≡ take (first_size bytes) bytes → opened t start ≡ opened blank bytes
@@ -23,11 +23,11 @@ abbrev its_line : ℕ → List ℕ
 its_line refusal = line 0 (DeskRefused refusal) []
 
 -- a start that is refused has one line, and an accepted one has the orders' lines behind its own
-refused : (o : Opened) (rest : List ℕ) → (o.answer.refusal ≡ 0 → ⊥) → output o rest ≡ its_line o.answer.refusal
-refused o rest n = ap (λ (x : Bool). if_passed x (opened_lines (started o) rest) (its_line o.answer.refusal)) (ne_eqb o.answer.refusal 0 n)
+pub output_refused : (o : Opened) (rest : List ℕ) → (o.answer.refusal ≡ 0 → ⊥) → output o rest ≡ its_line o.answer.refusal
+output_refused o rest n = ap (λ (x : Bool). if_passed x (opened_lines (started o) rest) (its_line o.answer.refusal)) (ne_eqb o.answer.refusal 0 n)
 
-accepted : (o : Opened) (rest : List ℕ) → o.answer.refusal ≡ 0 → output o rest ≡ opened_lines (started o) rest
-accepted o rest e = ap (λ (x : Bool). if_passed x (opened_lines (started o) rest) (its_line o.answer.refusal)) (eq-eqb o.answer.refusal 0 e)
+pub output_accepted : (o : Opened) (rest : List ℕ) → o.answer.refusal ≡ 0 → output o rest ≡ opened_lines (started o) rest
+output_accepted o rest e = ap (λ (x : Bool). if_passed x (opened_lines (started o) rest) (its_line o.answer.refusal)) (eq-eqb o.answer.refusal 0 e)
 
 module _ (old left : Option (List ℕ)) (start : List ℕ) (takes : TakesStart old left start) (t : Tables) (zeros : t ≡ blank) (P : List ℕ → Type 0) where
   pub session_refused : (k : ℕ) → k ≡ (opened t start).answer.refusal → (k ≡ 0 → ⊥) → P (its_line k) → IfSome old (λ bytes. P (session bytes))
@@ -39,7 +39,7 @@ module _ (old left : Option (List ℕ)) (start : List ℕ) (takes : TakesStart o
       by (Some bytes) None c = absurd c
       by (Some bytes) (Some rest) c =
           let o : k ≡ (opened blank bytes).answer.refusal = e ∙ ap (λ x. x.answer.refusal) (same_opened t bytes start zeros c.0) in
-          subst P (sym (refused (opened blank bytes) (drop (first_size bytes) bytes) (λ z. n (o ∙ z)) ∙ ap its_line (sym o))) p
+          subst P (sym (output_refused (opened blank bytes) (drop (first_size bytes) bytes) (λ z. n (o ∙ z)) ∙ ap its_line (sym o))) p
 
   pub session_accepted : (r : Running) → 0 ≡ (opened t start).answer.refusal → r ≡ started (opened t start) → IfSome left (λ rest. P (opened_lines r rest)) → IfSome old (λ bytes. P (session bytes))
   unfolding session
@@ -50,12 +50,18 @@ module _ (old left : Option (List ℕ)) (start : List ℕ) (takes : TakesStart o
       by (Some bytes) None c p = absurd c
       by (Some bytes) (Some rest) c p =
           let o = same_opened t bytes start zeros c.0 in
-          subst P (sym (accepted (opened blank bytes) (drop (first_size bytes) bytes) (sym (e ∙ ap (λ x. x.answer.refusal) o)) ∙ ap₂ opened_lines (sym (same ∙ ap started o)) (sym c.1))) p
+          subst P (sym (output_accepted (opened blank bytes) (drop (first_size bytes) bytes) (sym (e ∙ ap (λ x. x.answer.refusal) o)) ∙ ap₂ opened_lines (sym (same ∙ ap started o)) (sym c.1))) p
 
--- what is written whole is a front
-pub whole_front : (a x y : Option (List ℕ)) (all : List ℕ → List ℕ) → IfSome a (λ bytes. Appends x y (all bytes)) → IfSome a (λ bytes. AppendsFront x y (all bytes))
-whole_front None x y all w = tt
-whole_front (Some bytes) x y all w = front_all x y (all bytes) w
+-- and nothing is read behind a start that is refused
+pub stops_refused : (old left : Option (List ℕ)) (start : List ℕ) → TakesStart old left start → StopsAtStart old left
+stops_refused None left start c = tt
+stops_refused (Some bytes) None start c = absurd c
+stops_refused (Some bytes) (Some rest) start c = λ n. ap (λ l. Some l) c.1
+
+pub stops_accepted : (old left end : Option (List ℕ)) (start : List ℕ) → TakesStart old left start → (t : Tables) → t ≡ blank → 0 ≡ (opened t start).answer.refusal → StopsAtStart old end
+stops_accepted None left end start c t zeros e = tt
+stops_accepted (Some bytes) None end start c t zeros e = absurd c
+stops_accepted (Some bytes) (Some rest) end start c t zeros e = λ n. absurd (n (sym (e ∙ ap (λ x. x.answer.refusal) (same_opened t bytes start zeros c.0))))
 
 -- the desk's own line, and the orders' lines behind it
 module _ (a x y : Option (List ℕ)) (r : Running) (count : ℕ) (counts : count ≡ length r.links) where

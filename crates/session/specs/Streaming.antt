@@ -1,12 +1,12 @@
 -- What a session makes of an input that comes piece by piece, and of an output that may fail: what was written was due, and the rest is due
 -- still. Where the bytes of the input are not known, as those of a pipe, nothing is said.
-use Rattle.std.specs.Prelude.{◌≡◌, ⊤, List, [], ◌++◌, Bool, true, false, ℕ, ◌+◌, ◌/◌, ◌^◌, ◌≤◌, length, take, drop, Option, None, Some, IfSome}
+use Rattle.std.specs.Prelude.{◌≡◌, ◌≢◌, ⊤, List, [], ◌++◌, Bool, true, false, ℕ, ◌+◌, ◌/◌, ◌^◌, ◌≤◌, length, take, drop, Option, None, Some, IfSome}
 use Rattle.std.specs.Io.KnownBytes.{Appends, Consumes}
 use Rattle.layout.specs.Layout.{order_bytes}
 use Rattle.lent.specs.Lent.{tables_of}
 use Rattle.lent.specs.declared.Desk.{Desk}
-use Rattle.opening.specs.Opened.{first_size}
-use Rattle.session.specs.Session.{Running, lines, orders}
+use Rattle.opening.specs.Opened.{first_size, opened}
+use Rattle.session.specs.Session.{Running, lines, orders, blank}
 use Rattle.session.specs.declared.writer.Lines.{Lines}
 use Rattle.session.specs.declared.reader.Block.{Block}
 
@@ -15,6 +15,11 @@ abbrev pub TakesStart : Option (List ℕ) → Option (List ℕ) → List ℕ →
 TakesStart None left start = ⊤
 TakesStart (Some bytes) None start = ⊥
 TakesStart (Some bytes) (Some left) start = (start ≡ take (first_size bytes) bytes) × (left ≡ drop (first_size bytes) bytes)
+
+-- behind a start that is refused nothing is read
+abbrev pub StopsAtStart : Option (List ℕ) → Option (List ℕ) → Type 0
+StopsAtStart None left = ⊤
+StopsAtStart (Some bytes) left = (opened blank bytes).answer.refusal ≢ 0 → left ≡ Some (drop (first_size bytes) bytes)
 
 -- bytes of an input, behind those that came before
 abbrev pub ComesBehind : Option (List ℕ) → Option (List ℕ) → List ℕ → List ℕ → Type 0

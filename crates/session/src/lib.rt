@@ -1,6 +1,6 @@
 // A session: its first bytes to the desk's own line, then each order to its line, in whatever pieces the input comes. What an
 // order is answered, and how its line reads, is in the crates `opening` and `orders`. Whatever has come whole is answered, and its lines
-// are written, before more is read.
+// are written, before more is read. `run_orders` calls `run_session` over standard input and output; nothing here knows a file or a pipe.
 #![tactic(auto)]
 
 ghost use Rattle.std.specs.Prelude.{◌≡◌, ◌⊎◌, ◌+◌, ◌/◌, ◌≤◌, ◌<◌, ◌^◌, [], ◌∷◌, ◌++◌, true, false, length, IfSome, IfOk, OnOk, OnErr};
@@ -12,7 +12,7 @@ ghost use Rattle.orders.specs.Ordered.{line_of};
 ghost use Rattle.report.specs.Line.{line};
 ghost use Rattle.opening.specs.Opened.{desk_report};
 ghost use Rattle.session.specs.Session.{answered, behind, lines as lines_of, after, whole_orders, last_piece, orders, opened_lines, blank, session};
-ghost use Rattle.session.specs.Streaming.{AppendsFront, Moves, Goes, pending, kept, running, at_place, due, due_if, most_orders, Taken, Long};
+ghost use Rattle.session.specs.Streaming.{AppendsFront, Moves, Goes, pending, kept, running, at_place, due, due_if, most_orders, Taken, Long, StopsAtStart};
 
 mod reader;
 mod writer;
@@ -29,7 +29,7 @@ use units::{BOOK_FIGURES, Bandwidth, EVENTS, FREE_FIGURES, Head, LINKS, Link, Mi
 pub use writer::Output;
 use writer::{Lines, write_whole};
 
-// The most pieces in which an input comes.
+// The turns of the loop over the pieces of an input: no input has as many.
 const MOST_TURNS: u64 = 1 << 51;
 
 // Runs one order, whose line is written behind the others.
@@ -240,7 +240,8 @@ fn run_on<R: Input, W: Output>(
 ) -> io::Result<bool>
     requires blank { lent head.old events.old free.old book.old ≡ blank }
     requires intact { W.intact output.old ≡ true }
-    ensures long { IfOk result (λ ended. ended ≡ false → IfSome (R.remaining input.old) (λ bytes. 2 ^ 51 ≤ length bytes)) }
+    ensures long { IfOk result (λ ended. ended ≡ false → Long (R.remaining input.old)) }
+    ensures stops { OnOk result (StopsAtStart (R.remaining input.old) (R.remaining input.new)) }
     ensures whole { IfOk result (λ ended. ended ≡ true → IfSome (R.remaining input.old) (λ bytes. Appends (W.contents output.old) (W.contents output.new) (session bytes))) }
     ensures front { IfSome (R.remaining input.old) (λ bytes. AppendsFront (W.contents output.old) (W.contents output.new) (session bytes)) }
     ensures fails { OnErr result ((R.failed input.new ≡ true) ⊎ (W.failed output.new ≡ true)) }
@@ -270,7 +271,8 @@ fn run_on<R: Input, W: Output>(
 #[tactic(auto, unfolding(crate::specs::Session::blank))]
 pub fn run_session<R: Input, W: Output>(input: &mut R, output: &mut W) -> io::Result<bool>
     requires intact { W.intact output.old ≡ true }
-    ensures long { IfOk result (λ ended. ended ≡ false → IfSome (R.remaining input.old) (λ bytes. 2 ^ 51 ≤ length bytes)) }
+    ensures long { IfOk result (λ ended. ended ≡ false → Long (R.remaining input.old)) }
+    ensures stops { OnOk result (StopsAtStart (R.remaining input.old) (R.remaining input.new)) }
     ensures whole { IfOk result (λ ended. ended ≡ true → IfSome (R.remaining input.old) (λ bytes. Appends (W.contents output.old) (W.contents output.new) (session bytes))) }
     ensures front { IfSome (R.remaining input.old) (λ bytes. AppendsFront (W.contents output.old) (W.contents output.new) (session bytes)) }
     ensures fails { OnErr result ((R.failed input.new ≡ true) ⊎ (W.failed output.new ≡ true)) }

@@ -1,38 +1,26 @@
 -- A session can be cut at any order's border: what comes behind its first bytes changes nothing of its start, and whole orders stay whole.
-use mathlib.Core.Path.{◌≡◌, refl, sym, ap, ap₂, ◌∙◌}
-use mathlib.Core.Logic.{◌≢◌}
-use mathlib.Core.List.{List, [], ◌∷◌, ◌++◌, append_assoc, append-nil}
+use mathlib.Core.Path.{◌≡◌, sym, ap, ap₂, ◌∙◌}
+use mathlib.Core.List.{List, [], ◌++◌, append_assoc, append-nil}
 use Prim.Native.Nat.{ℕ, ◌+◌, ◌*◌, ◌≤◌}
 use native.Mathlib.Omega.{arith}
-use borrow.Author.Tests.{eq-eqb, ne_eqb}
 use lib.ListN.{length, drop, length-drop, length-append}
 use lib.Seq.{drop-length, take-append_seam}
 use Rattle.std.proofs.lemmas.List.{drop-append-le}
 use Rattle.layout.specs.Layout.{order_bytes}
-use Rattle.report.specs.declared.Report.TheVariants.{DeskLinks, DeskRefused}
+use Rattle.report.specs.declared.Report.TheVariants.{DeskLinks}
 use Rattle.report.specs.Line.{line}
 use Rattle.opening.specs.Opened.{first_size, Opened, opened}
 use Rattle.opening.proofs.First.{opened_first}
 use Rattle.session.specs.Session.{lines, after, whole_orders, cut_short, last_piece, orders, blank, started, output, session}
 use Rattle.session_demands.specs.Cutting.{AtBorder, Refused, reached, CutAnywhere}
+use Rattle.session.proofs.Start.{size_front}
+use Rattle.session.proofs.Whole.{output_accepted, output_refused}
 use Rattle.session.proofs.Orders.{lines_append, after_append, orders_more}
 
--- the first byte, and how many bytes stand before the orders, whatever comes behind them
-pub first_size_front : (a b : List ℕ) → 1 ≤ length a → first_size (a ++ b) ≡ first_size a
-unfolding first_size
-first_size_front [] b h = absurd (omega arith)
-first_size_front (x ∷ a) b h = refl
-
+-- how many bytes stand before the orders
 pub first_size_some : (a : List ℕ) → 1 ≤ first_size a
 unfolding first_size
 first_size_some a = omega arith
-
--- the output by the answer of the start
-pub output_accepted : (o : Opened) (bytes : List ℕ) → o.answer.refusal ≡ 0 → output o bytes ≡ line 0 (DeskLinks (length o.answer.links)) [] ++ lines (started o) (orders bytes)
-output_accepted o bytes e = rw (eq-eqb o.answer.refusal 0 e) refl
-
-pub output_refused : (o : Opened) (bytes : List ℕ) → o.answer.refusal ≢ 0 → output o bytes ≡ line 0 (DeskRefused o.answer.refusal) []
-output_refused o bytes e = rw (ne_eqb o.answer.refusal 0 e) refl
 
 -- whole orders, and orders behind them
 pub orders_cut : (xs ys : List ℕ) (k : ℕ) → length xs ≡ k * order_bytes → orders (xs ++ ys) ≡ orders xs ++ orders ys
@@ -44,14 +32,14 @@ orders_cut xs ys k h =
 opened_front : (a b : List ℕ) → first_size a ≤ length a → opened blank (a ++ b) ≡ opened blank a
 opened_front a b h =
     let s = first_size_some a in
-    sym (opened_first blank (a ++ b) (length a) (rw (first_size_front a b (omega arith)) h)) ∙ ap (opened blank) (take-append_seam a b)
+    sym (opened_first blank (a ++ b) (length a) (rw (size_front a b (omega arith)) h)) ∙ ap (opened blank) (take-append_seam a b)
 
 -- what looks at the start and the bytes behind it alone, where more comes behind those
 pub front : {X : Type 0} (out : Opened → List ℕ → X) (a b : List ℕ) → first_size a ≤ length a
     → out (opened blank (a ++ b)) (drop (first_size (a ++ b)) (a ++ b)) ≡ out (opened blank a) (drop (first_size a) a ++ b)
 front out a b h =
     let s = first_size_some a in
-    ap₂ out (opened_front a b h) (ap (λ n. drop n (a ++ b)) (first_size_front a b (omega arith)) ∙ drop-append-le (first_size a) a b h)
+    ap₂ out (opened_front a b h) (ap (λ n. drop n (a ++ b)) (size_front a b (omega arith)) ∙ drop-append-le (first_size a) a b h)
 
 -- a border behind a border
 pub border_more : (a b : List ℕ) (count n : ℕ) → AtBorder a count → length b ≡ n * order_bytes → AtBorder (a ++ b) (count + n)
@@ -59,7 +47,7 @@ border_more a b count n at h =
     let s = first_size_some a in
     record {
       accepted = ap (λ o. o.answer.refusal) (opened_front a b (omega (arith, at.border))) ∙ at.accepted;
-      border = omega (arith, length-append a b, first_size_front a b (omega (arith, at.border)), at.border);
+      border = omega (arith, length-append a b, size_front a b (omega (arith, at.border)), at.border);
     }
 
 pub goes_on : (a b : List ℕ) (count : ℕ) → AtBorder a count → session (a ++ b) ≡ session a ++ lines (reached a) (orders b)

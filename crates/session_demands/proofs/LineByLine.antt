@@ -34,7 +34,8 @@ use Rattle.session.specs.Session.{Running, answered, lines, last_piece, orders, 
 use Rattle.session_demands.specs.Cutting.{AtBorder, reached, LineAt, LineByLine}
 use Rattle.session.proofs.Orders.{after_place, orders_short, orders_first, orders_front}
 use Rattle.session_demands.proofs.PlainBook.{links_counted, start_tables}
-use Rattle.session_demands.proofs.Cutting.{output_accepted, output_refused, goes_on}
+use Rattle.session_demands.proofs.Cutting.{goes_on}
+use Rattle.session.proofs.Whole.{output_accepted, output_refused}
 
 -- ---- a line
 

@@ -22,7 +22,8 @@ use Rattle.opening.proofs.First.{opened_first}
 use Rattle.session.specs.Session.{blank}
 use Rattle.session_demands.specs.Cutting.{AtBorder, LineAt, LineByLine, ends, OneLineEach}
 use Rattle.session_demands.proofs.PlainBook.{passed}
-use Rattle.session_demands.proofs.Cutting.{first_size_front, first_size_some}
+use Rattle.session_demands.proofs.Cutting.{first_size_some}
+use Rattle.session.proofs.Start.{size_front}
 use Rattle.session_demands.proofs.LineByLine.{orders_count, orders_count_more, decimal_no_end}
 
 ends_append : (xs ys : List ℕ) → ends (xs ++ ys) ≡ ends xs + ends ys
@@ -71,7 +72,7 @@ module _ (bytes : List ℕ) (accepted : (opened blank bytes).answer.refusal ≡ 
   front_border : AtBorder front n
   front_border =
       let some = first_size_some bytes in
-      let same : first_size front ≡ first_size bytes = sym (first_size_front front (drop (first_size bytes + n * order_bytes) bytes) (omega (arith, front_length))) ∙ ap first_size (take-append-drop (first_size bytes + n * order_bytes) bytes) in
+      let same : first_size front ≡ first_size bytes = sym (size_front front (drop (first_size bytes + n * order_bytes) bytes) (omega (arith, front_length))) ∙ ap first_size (take-append-drop (first_size bytes + n * order_bytes) bytes) in
       record { accepted = ap (λ o. o.answer.refusal) (opened_first blank bytes (first_size bytes + n * order_bytes) (omega arith)) ∙ accepted; border = omega (arith, front_length, same) }
 
 module _ (program : List ℕ → List ℕ) (demand : LineByLine program) where

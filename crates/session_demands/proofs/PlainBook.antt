@@ -2,7 +2,7 @@
 use mathlib.Core.Path.{◌≡◌, refl, sym, ap, ap₂, ◌∙◌, subst}
 use mathlib.Core.List.{List, [], ◌∷◌, ◌++◌}
 use mathlib.Core.Bool.{Bool, true, false}
-use Prim.Native.Nat.{ℕ, zero, suc, ◌+◌, ◌*◌}
+use Prim.Native.Nat.{ℕ, ◌+◌, ◌*◌}
 use native.Mathlib.Omega.{arith}
 use borrow.Author.Tests.{eqb-true}
 use lib.Dec.{eqb}
@@ -12,7 +12,7 @@ use Rattle.std.proofs.lemmas.List.{length-map}
 use Rattle.units.specs.declared.Link.{Link}
 use Rattle.units.specs.declared.Refusal.{Refusal}
 use Rattle.units.specs.Limits.{most_links, most_events, most_bookings, place_size}
-use Rattle.units.specs.Lists.{within, Within, count_from, All}
+use Rattle.units.specs.Lists.{within, Within, All}
 use Rattle.units.specs.Refusals.{bad_size, bad_link, bad_length}
 use Rattle.units.proofs.Tests.{in_range}
 use Rattle.layout.specs.declared.Order.{Order}
@@ -29,6 +29,7 @@ use Rattle.rules.proofs.Tests.{links_tell, sized_tells}
 use Rattle.rules.proofs.Step.{set_up_accepted, set_up_leaves, obeys_empty, answers_plain, leaves_plain, stays_obeyed}
 use Rattle.opening.specs.Opened.{first_byte, first_size, links_in, bytes_refusal, by_set_up, opened}
 use Rattle.orders.specs.Ordered.{Ordered, call_of, answered_by, answered as answered_order, by_reading, ordered, line_of}
+use Rattle.units.proofs.Padded.{length_count}
 use Rattle.session.specs.Session.{Running, answered, behind, lines, after, started, orders, blank, output, session}
 use Rattle.session_demands.specs.FromPlainBook.{plain_told, plain_next, line_at, plain_lines, plain_start, plain_output, plain_session, FromPlainBook, LinesFromPlainBook}
 
@@ -69,11 +70,6 @@ set_up_number links count = rw (blank_sized links count) (by (links_ok links))
     by false = refl
 
 -- bytes that pass count as many links as they hold, in range
-length_count : (i n : ℕ) → length (count_from i n) ≡ n
-unfolding count_from
-length_count i zero = refl
-length_count i (suc n) = ap suc (length_count (suc i) n)
-
 pub links_counted : (bytes : List ℕ) → length (links_in bytes (first_byte bytes)) ≡ first_byte bytes
 unfolding links_in
 links_counted bytes = rw (length-map, length_count) refl

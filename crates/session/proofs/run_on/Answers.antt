@@ -6,7 +6,7 @@ use Rattle.units.specs.declared.Link.{Link}
 use Rattle.rules.specs.Tables.{Tables, lent}
 use Rattle.session.specs.Session.{Running}
 use Rattle.session.specs.Streaming.{AppendsFront}
-use Rattle.session.proofs.Whole.{session_refused, session_accepted}
+use Rattle.session.proofs.Whole.{session_refused, session_accepted, stops_refused, stops_accepted}
 use Rattle.session.proofs.run_on.Goals as goal
 
 -- a session at its first order
@@ -48,3 +48,14 @@ returns-in-Ok-clause-front g c =
     let r : Running = at_first c.in-Ok.links.now (lent left.head left.events left.free left.book) in
     let fails = session_accepted (g.R.Read.remaining c.args.input.now) (g.R.Read.remaining c.read_start.new.input) (take size.size c.read_start.new.first) size.ensures.start _ c.requires.blank P r c.in-Ok.ensures.refusal (ap₂ at_first c.in-Ok.ensures.links c.in-Ok.ensures.tables) in
     search (rules, fails)
+
+pub returns-in_ok-write_start-in-Err-clause-stops : goal.returns-in_ok-write_start-in-Err-clause-stops
+returns-in_ok-write_start-in-Err-clause-stops g c =
+    let size = c.in_ok-size in
+    stops_refused (g.R.Read.remaining c.args.input.now) (g.R.Read.remaining c.read_start.new.input) (take size.size c.read_start.new.first) size.ensures.start
+
+pub returns-in-Ok-clause-stops : goal.returns-in-Ok-clause-stops
+returns-in-Ok-clause-stops g c =
+    let size = c.in_ok-size in
+    let stops = stops_accepted (g.R.Read.remaining c.args.input.now) (g.R.Read.remaining c.read_start.new.input) (g.R.Read.remaining c.run_opened.new.input) (take size.size c.read_start.new.first) size.ensures.start _ c.requires.blank c.in-Ok.ensures.refusal in
+    search (rules, stops)
