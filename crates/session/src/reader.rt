@@ -1,8 +1,7 @@
 // Reading: once, until a buffer is full, and the first bytes of a session. The session calls it; nothing here looks at an order.
 
-ghost use Rattle.std.specs.Prelude.{◌≡◌, ◌≤◌, ◌<◌, length, take, IfOk};
+ghost use Rattle.std.specs.Prelude.{◌≡◌, ◌≤◌, ◌<◌, Bool, true, length, take, IfOk, OnErr};
 ghost use Rattle.std.specs.Io.{ReadsAtMost};
-ghost use Rattle.std.specs.Prelude.{Bool, true, OnErr};
 ghost use Rattle.std.specs.Io.KnownBytes.{Consumes, IsAtEnd};
 ghost use Rattle.layout.specs.Layout.{order_bytes};
 ghost use Rattle.session.specs.Session.{cut_short};
