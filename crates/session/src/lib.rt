@@ -125,6 +125,7 @@ fn answer_last<W: Output>(
     requires none { lines.old.used ≡ 0 }
     requires counted { lines.old.place + 1 < 2 ^ 64 }
     requires intact { W.intact output.old ≡ true }
+    ensures intact { OnOk result (W.intact output.new ≡ true) }
     ensures fine { Fine desk.new.links.now (tables_of desk.new) }
     ensures written { OnOk result (Appends (W.contents output.old) (W.contents output.new) (lines_of (running desk.old lines.old) (last_piece piece.now))) }
     ensures front { OnErr result (AppendsFront (W.contents output.old) (W.contents output.new) (lines_of (running desk.old lines.old) (last_piece piece.now))) }
@@ -151,7 +152,7 @@ fn answer_some<R: Input, W: Output>(
     requires none { lines.old.used ≡ 0 }
     requires counted { lines.old.place + most_orders < 2 ^ 64 }
     requires intact { W.intact output.old ≡ true }
-    ensures intact { IfOk result (λ more. more ≡ true → W.intact output.new ≡ true) }
+    ensures intact { OnOk result (W.intact output.new ≡ true) }
     ensures once { R.once input.old input.new ≡ true }
     ensures fine { Fine desk.new.links.now (tables_of desk.new) }
     ensures kept { OnOk result (block.new.kept < order_bytes) }
@@ -183,6 +184,7 @@ fn run_all<R: Input, W: Output>(
 ) -> io::Result<bool>
     requires fine { Fine desk.old.links.now (tables_of desk.old) }
     requires intact { W.intact output.old ≡ true }
+    ensures intact { OnOk result (W.intact output.new ≡ true) }
     ensures long { IfOk result (λ ended. ended ≡ false → Long (R.remaining input.old)) }
     ensures whole { IfOk result (λ ended. ended ≡ true → IfSome (R.remaining input.old) (λ bytes. Appends (W.contents output.old) (W.contents output.new) (lines_of (at_place desk.old 1) (orders bytes)))) }
     ensures front { IfSome (R.remaining input.old) (λ bytes. AppendsFront (W.contents output.old) (W.contents output.new) (lines_of (at_place desk.old 1) (orders bytes))) }
@@ -219,6 +221,7 @@ fn run_opened<R: Input, W: Output>(
 ) -> io::Result<bool>
     requires fine { Fine desk.old.links.now (tables_of desk.old) }
     requires intact { W.intact output.old ≡ true }
+    ensures intact { OnOk result (W.intact output.new ≡ true) }
     ensures long { IfOk result (λ ended. ended ≡ false → Long (R.remaining input.old)) }
     ensures whole { IfOk result (λ ended. ended ≡ true → IfSome (R.remaining input.old) (λ bytes. Appends (W.contents output.old) (W.contents output.new) (opened_lines (at_place desk.old 1) bytes))) }
     ensures front { IfSome (R.remaining input.old) (λ bytes. AppendsFront (W.contents output.old) (W.contents output.new) (opened_lines (at_place desk.old 1) bytes)) }
@@ -240,6 +243,7 @@ fn run_on<R: Input, W: Output>(
 ) -> io::Result<bool>
     requires blank { lent head.old events.old free.old book.old ≡ blank }
     requires intact { W.intact output.old ≡ true }
+    ensures intact { OnOk result (W.intact output.new ≡ true) }
     ensures long { IfOk result (λ ended. ended ≡ false → Long (R.remaining input.old)) }
     ensures stops { OnOk result (StopsAtStart (R.remaining input.old) (R.remaining input.new)) }
     ensures whole { IfOk result (λ ended. ended ≡ true → IfSome (R.remaining input.old) (λ bytes. Appends (W.contents output.old) (W.contents output.new) (session bytes))) }
@@ -271,6 +275,7 @@ fn run_on<R: Input, W: Output>(
 #[tactic(auto, unfolding(crate::specs::Session::blank))]
 pub fn run_session<R: Input, W: Output>(input: &mut R, output: &mut W) -> io::Result<bool>
     requires intact { W.intact output.old ≡ true }
+    ensures intact { OnOk result (W.intact output.new ≡ true) }
     ensures long { IfOk result (λ ended. ended ≡ false → Long (R.remaining input.old)) }
     ensures stops { OnOk result (StopsAtStart (R.remaining input.old) (R.remaining input.new)) }
     ensures whole { IfOk result (λ ended. ended ≡ true → IfSome (R.remaining input.old) (λ bytes. Appends (W.contents output.old) (W.contents output.new) (session bytes))) }

@@ -36,7 +36,7 @@ loop-preserved g c =
     let more : c.in_ok-answer_some.field-0 ≡ true = search rules in
     let still : List ℕ → List ℕ = due (running c.answer_some.new.desk c.answer_some.new.lines) (kept c.answer_some.new.block) in
     let step = subst (λ m. Goes (g.R.Read.remaining l.input) (g.R.Read.remaining c.answer_some.new.input) (g.W.Write.contents l.output) (g.W.Write.contents c.answer_some.new.output) (due (running l.desk l.lines) (kept l.block)) (due_if m still)) more k.goes in (
-      k.intact more,
+      k.intact,
       k.fine,
       k.kept,
       k.none more,
