@@ -6,7 +6,7 @@ use Rattle.std.specs.Io.KnownBytes.{Appends}
 use Rattle.std.proofs.KnownBytes.{Appends-trans}
 use Rattle.std.proofs.lemmas.List.{take-append-le, take_all}
 use Rattle.std.proofs.Math.Seq.{take-append-add, take-append_seam}
-use Rattle.session.specs.Streaming.{AppendsFront, Moves}
+use Rattle.streams.specs.Writing.{AppendsFront, Moves}
 
 module _ (a b : Option (List ℕ)) (xs : List ℕ) where
   -- a front of some bytes is one of those and more behind them

@@ -1,7 +1,5 @@
 -- Laws of the definitions of `specs/`.
 pub mod Orders
-pub mod Came
-pub mod Start
 pub mod Fronts
 pub mod Runs
 pub mod Steps

@@ -9,7 +9,8 @@ use Rattle.std.specs.Simd.{first_chunks}
 use Rattle.std.proofs.lemmas.List.{take-append-le, drop-append-le}
 use Rattle.layout.specs.Layout.{order_bytes}
 use Rattle.orders.specs.Ordered.{line_of}
-use Rattle.session.specs.Session.{Running, answered, behind, lines, after, whole_orders, cut_short, last_piece, orders}
+use Rattle.streams.specs.Reading.{cut_short}
+use Rattle.session.specs.Session.{Running, answered, behind, lines, after, whole_orders, last_piece, orders}
 
 -- ---- the lines of orders, and the session behind them
 

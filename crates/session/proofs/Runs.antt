@@ -3,8 +3,8 @@ use Rattle.std.proofs.Common.{◌≡◌, ◌++◌, ◌<◌, ℕ, List, [], ◌�
 use Rattle.std.specs.Prelude.{Option}
 use Rattle.orders.specs.Ordered.{line_of}
 use Rattle.session.specs.Session.{Running, answered, behind, lines, after, last_piece}
-use Rattle.session.specs.Streaming.{AppendsFront, Moves, pending}
-use Rattle.session.specs.declared.writer.Lines.{Lines}
+use Rattle.streams.specs.Writing.{AppendsFront, Moves, pending}
+use Rattle.streams.specs.declared.writer.Lines.{Lines}
 use Rattle.session.proofs.Fronts.{front_more, front_after, moves_more, moves_then}
 
 -- r is the session at an order, and `left` are the orders from it on

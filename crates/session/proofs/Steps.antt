@@ -4,8 +4,10 @@ use Rattle.std.specs.Prelude.{Option, None, Some, IfSome}
 use Rattle.std.specs.Io.KnownBytes.{Appends, Consumes, IsAtEnd}
 use Rattle.std.proofs.Math.Seq.{take-append_seam}
 use Rattle.layout.specs.Layout.{order_bytes}
-use Rattle.session.specs.Session.{Running, lines, after, whole_orders, cut_short, last_piece, orders}
-use Rattle.session.specs.Streaming.{ComesBehind, AppendsFront, Goes, Taken, due, due_if}
+use Rattle.streams.specs.Reading.{cut_short, ComesBehind}
+use Rattle.streams.specs.Writing.{AppendsFront}
+use Rattle.session.specs.Session.{Running, lines, after, whole_orders, last_piece, orders}
+use Rattle.session.specs.Streaming.{Goes, Taken, due, due_if}
 use Rattle.session.proofs.Fronts.{front_more, front_after, moves_then}
 use Rattle.session.proofs.Orders.{lines_append, orders_more, orders_short}
 

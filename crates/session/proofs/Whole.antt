@@ -11,8 +11,10 @@ use Rattle.report.specs.Line.{line}
 use Rattle.rules.specs.Tables.{Tables}
 use Rattle.opening.specs.Opened.{Opened, opened, first_size}
 use Rattle.opening.proofs.First.{opened_first}
+use Rattle.streams.specs.Reading.{TakesStart}
+use Rattle.streams.specs.Writing.{AppendsFront}
 use Rattle.session.specs.Session.{Running, lines, orders, blank, started, output, session, opened_lines}
-use Rattle.session.specs.Streaming.{TakesStart, StopsAtStart, AppendsFront}
+use Rattle.session.specs.Streaming.{StopsAtStart}
 use Rattle.session.proofs.Fronts.{front_more, front_then}
 
 -- what the first bytes give is what all bytes give

@@ -9,6 +9,7 @@ use Rattle.report.specs.declared.Report.TheVariants.{DeskLinks, DeskRefused}
 use Rattle.report.specs.Line.{line}
 use Rattle.rules.specs.Tables.{Tables, lent}
 use Rattle.opening.specs.Opened.{first_size, Opened, opened}
+use Rattle.streams.specs.Reading.{cut_short}
 use Rattle.orders.specs.Ordered.{Ordered, ordered, line_of}
 
 -- a session under way: its links, its tables, and the place of the next order
@@ -37,9 +38,6 @@ after r (order ∷ orders) = after (behind r order) orders
 -- 'orders to the end': each sixteen bytes, and 'a last piece of 1 to 15'
 abbrev pub whole_orders : List ℕ → List (List ℕ)
 whole_orders bytes = first_chunks order_bytes (length bytes / order_bytes) bytes
-
-abbrev pub cut_short : List ℕ → List ℕ
-cut_short bytes = drop (length bytes / order_bytes * order_bytes) bytes
 
 abbrev pub last_piece : List ℕ → List (List ℕ)
 last_piece [] = []

@@ -1,33 +1,19 @@
 -- What a session makes of an input that comes piece by piece, and of an output that may fail: what was written was due, and the rest is due
 -- still. Where the bytes of the input are not known, as those of a pipe, nothing is said.
-use Rattle.std.specs.Prelude.{◌≡◌, ◌≢◌, ⊤, List, [], ◌++◌, Bool, true, false, ℕ, ◌+◌, ◌/◌, ◌^◌, ◌≤◌, length, take, drop, Option, None, Some, IfSome}
-use Rattle.std.specs.Io.KnownBytes.{Appends, Consumes}
+use Rattle.std.specs.Prelude.{◌≡◌, ◌≢◌, ⊤, List, [], ◌++◌, Bool, true, false, ℕ, ◌+◌, ◌/◌, ◌^◌, ◌≤◌, length, drop, Option, None, Some, IfSome}
 use Rattle.layout.specs.Layout.{order_bytes}
 use Rattle.lent.specs.Lent.{tables_of}
 use Rattle.lent.specs.declared.Desk.{Desk}
 use Rattle.opening.specs.Opened.{first_size, opened}
 use Rattle.session.specs.Session.{Running, lines, orders, blank}
-use Rattle.session.specs.declared.writer.Lines.{Lines}
-use Rattle.session.specs.declared.reader.Block.{Block}
-
--- the first bytes of an input, taken off it
-abbrev pub TakesStart : Option (List ℕ) → Option (List ℕ) → List ℕ → Type 0
-TakesStart None left start = ⊤
-TakesStart (Some bytes) None start = ⊥
-TakesStart (Some bytes) (Some left) start = (start ≡ take (first_size bytes) bytes) × (left ≡ drop (first_size bytes) bytes)
+use Rattle.streams.specs.declared.writer.Lines.{Lines}
+use Rattle.streams.specs.Reading.{block_bytes}
+use Rattle.streams.specs.Writing.{Moves}
 
 -- behind a start that is refused nothing is read
 abbrev pub StopsAtStart : Option (List ℕ) → Option (List ℕ) → Type 0
 StopsAtStart None left = ⊤
 StopsAtStart (Some bytes) left = (opened blank bytes).answer.refusal ≢ 0 → left ≡ Some (drop (first_size bytes) bytes)
-
--- bytes of an input, behind those that came before
-abbrev pub ComesBehind : Option (List ℕ) → Option (List ℕ) → List ℕ → List ℕ → Type 0
-ComesBehind old left before all = (came : List ℕ) × Consumes old left came × (all ≡ before ++ came)
-
--- some of these bytes, from the first on
-abbrev pub AppendsFront : Option (List ℕ) → Option (List ℕ) → List ℕ → Type 0
-AppendsFront old new bytes = (n : ℕ) × Appends old new (take n bytes)
 
 -- so many bytes at least were taken off an input
 abbrev pub Taken : ℕ → Option (List ℕ) → Option (List ℕ) → Type 0
@@ -39,18 +25,7 @@ Taken n (Some bytes) (Some left) = n + length left ≤ length bytes
 abbrev pub Long : Option (List ℕ) → Type 0
 Long input = IfSome input (λ bytes. 2 ^ 51 ≤ length bytes)
 
--- lines that stand in a buffer, to be written
-abbrev pub pending : Lines → List ℕ
-pending l = take l.used l.bytes
-
--- the bytes that have come of an order which is not whole yet
-abbrev pub kept : Block → List ℕ
-kept b = take b.kept b.bytes
-
--- the bytes of a block that is full, and its orders
-abbrev pub block_bytes : ℕ
-block_bytes = 65536
-
+-- the most orders of a block
 abbrev pub most_orders : ℕ
 most_orders = block_bytes / order_bytes
 
@@ -68,10 +43,6 @@ due r came bytes = lines r (orders (came ++ bytes))
 abbrev pub due_if : Bool → (List ℕ → List ℕ) → List ℕ → List ℕ
 due_if true still bytes = still bytes
 due_if false still bytes = []
-
--- lines that were pending are written, or pending still
-abbrev pub Moves : Option (List ℕ) → Option (List ℕ) → List ℕ → List ℕ → Type 0
-Moves old new before after = (written : List ℕ) × Appends old new written × (before ≡ written ++ after)
 
 -- from what the input had left and the output held to what they have and hold
 abbrev pub Goes : Option (List ℕ) → Option (List ℕ) → Option (List ℕ) → Option (List ℕ) → (List ℕ → List ℕ) → (List ℕ → List ℕ) → Type 0

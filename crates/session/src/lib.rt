@@ -11,23 +11,20 @@ ghost use Rattle.lent.specs.Lent.{tables_of};
 ghost use Rattle.orders.specs.Ordered.{line_of};
 ghost use Rattle.report.specs.Line.{line};
 ghost use Rattle.opening.specs.Opened.{desk_report};
+ghost use Rattle.streams.specs.Reading.{kept};
+ghost use Rattle.streams.specs.Writing.{AppendsFront, Moves, pending};
 ghost use Rattle.session.specs.Session.{answered, behind, lines as lines_of, after, whole_orders, last_piece, orders, opened_lines, blank, session};
-ghost use Rattle.session.specs.Streaming.{AppendsFront, Moves, Goes, pending, kept, running, at_place, due, due_if, most_orders, Taken, Long, StopsAtStart};
-
-mod reader;
-mod writer;
+ghost use Rattle.session.specs.Streaming.{Goes, running, at_place, due, due_if, most_orders, Taken, Long, StopsAtStart};
 
 use layout::{FIRST_BYTES, ORDER_BYTES};
 use lent::Desk;
 use opening::{open_desk, write_opened};
 use orders::run_order;
-pub use reader::Input;
-use reader::{Block, read_start};
 use report::MAX_LINE;
 use std::io;
+use streams::reader::{Block, Input, read_start};
+use streams::writer::{Lines, Output, write_whole};
 use units::{BOOK_FIGURES, Bandwidth, EVENTS, FREE_FIGURES, Head, LINKS, Link, Minute, Refusal};
-pub use writer::Output;
-use writer::{Lines, write_whole};
 
 // The turns of the loop over the pieces of an input: no input has as many.
 const MOST_TURNS: u64 = 1 << 51;

@@ -11,9 +11,10 @@ use Rattle.report.specs.declared.Report.TheVariants.{DeskLinks}
 use Rattle.report.specs.Line.{line}
 use Rattle.opening.specs.Opened.{first_size, Opened, opened}
 use Rattle.opening.proofs.First.{opened_first}
-use Rattle.session.specs.Session.{lines, after, whole_orders, cut_short, last_piece, orders, blank, started, output, session}
+use Rattle.streams.specs.Reading.{cut_short}
+use Rattle.session.specs.Session.{lines, after, whole_orders, last_piece, orders, blank, started, output, session}
 use Rattle.session_demands.specs.Cutting.{AtBorder, Refused, reached, CutAnywhere}
-use Rattle.session.proofs.Start.{size_front}
+use Rattle.streams.proofs.Start.{size_front}
 use Rattle.session.proofs.Whole.{output_accepted, output_refused}
 use Rattle.session.proofs.Orders.{lines_append, after_append, orders_more}
 

@@ -23,7 +23,7 @@ use Rattle.session.specs.Session.{blank}
 use Rattle.session_demands.specs.Cutting.{AtBorder, LineAt, LineByLine, ends, OneLineEach}
 use Rattle.session_demands.proofs.PlainBook.{passed}
 use Rattle.session_demands.proofs.Cutting.{first_size_some}
-use Rattle.session.proofs.Start.{size_front}
+use Rattle.streams.proofs.Start.{size_front}
 use Rattle.session_demands.proofs.LineByLine.{orders_count, orders_count_more, decimal_no_end}
 
 ends_append : (xs ys : List ℕ) → ends (xs ++ ys) ≡ ends xs + ends ys

@@ -3,8 +3,9 @@ use Rattle.std.proofs.Common.{rules, ◌≡◌, ◌++◌, ℕ, List, sym, ◌∙
 use Rattle.std.specs.Io.KnownBytes.{Appends}
 use Rattle.std.proofs.KnownBytes.{Appends-nil}
 use Rattle.orders.specs.Ordered.{line_of}
+use Rattle.streams.specs.Writing.{AppendsFront, Moves, pending}
 use Rattle.session.specs.Session.{answered, lines, last_piece}
-use Rattle.session.specs.Streaming.{AppendsFront, Moves, pending, running}
+use Rattle.session.specs.Streaming.{running}
 use Rattle.session.proofs.Fronts.{moves_out, front_after}
 use Rattle.session.proofs.Runs.{no_last, last_line, none_pending}
 use Rattle.session.proofs.answer_last.Given.{Over}

@@ -1,7 +1,9 @@
 -- `answer_some` meets its contract: what has come is answered, but for what is cut short; at the input's end that is the last piece.
 use Rattle.std.proofs.Common.{rules, List, [], ℕ, take}
 use Rattle.std.specs.Prelude.{IfSome}
-use Rattle.session.specs.Streaming.{AppendsFront, kept, running, due}
+use Rattle.streams.specs.Reading.{kept}
+use Rattle.streams.specs.Writing.{AppendsFront}
+use Rattle.session.specs.Streaming.{running, due}
 use Rattle.session.proofs.Steps.{answered_whole, whole_fails, answered_last, last_fails}
 use Rattle.session.proofs.answer_some.Given.{Over}
 use Rattle.session.proofs.answer_some.Goals as goal

@@ -1,7 +1,8 @@
 -- `answer_whole` meets its contract: where the lines cannot be written out, some of them were.
 use Rattle.std.proofs.Common.{rules, ◌∙◌, ap, subst}
+use Rattle.streams.specs.Writing.{AppendsFront, Moves, pending}
 use Rattle.session.specs.Session.{lines, whole_orders}
-use Rattle.session.specs.Streaming.{AppendsFront, Moves, pending, running}
+use Rattle.session.specs.Streaming.{running}
 use Rattle.session.proofs.Fronts.{front_after}
 use Rattle.session.proofs.Runs.{none_pending}
 use Rattle.session.proofs.answer_whole.Goals as goal

@@ -1,7 +1,8 @@
 -- `run_all` meets its contract: what a turn writes stands behind what was written.
 use Rattle.std.proofs.Common.{rules, ◌≡◌, List, ℕ, true, false, subst}
+use Rattle.streams.specs.Reading.{kept}
 use Rattle.session.specs.Session.{lines, orders}
-use Rattle.session.specs.Streaming.{Goes, kept, running, at_place, due, due_if}
+use Rattle.session.specs.Streaming.{Goes, running, at_place, due, due_if}
 use Rattle.session.proofs.Steps.{goes_then, goes_fails, goes_stops, taken_more}
 use Rattle.session.proofs.run_all.Goals as goal
 

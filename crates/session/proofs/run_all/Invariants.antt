@@ -3,8 +3,9 @@ use Rattle.std.proofs.Common.{◌≡◌, ◌+◌, ◌*◌, ◌≤◌, ◌<◌, t
 use Rattle.rules.specs.Tables.{Fine}
 use Rattle.lent.specs.Lent.{tables_of}
 use Rattle.layout.specs.Layout.{order_bytes}
+use Rattle.streams.specs.Reading.{kept}
 use Rattle.session.specs.Session.{lines, orders}
-use Rattle.session.specs.Streaming.{Goes, Taken, kept, running, at_place, due, most_orders}
+use Rattle.session.specs.Streaming.{Goes, Taken, running, at_place, due, most_orders}
 use Rattle.session.proofs.run_all.Given as goal
 
 abbrev pub invariant-loop : goal.invariant-loop

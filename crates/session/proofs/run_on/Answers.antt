@@ -5,7 +5,7 @@ use Rattle.units.proofs.Refusals.{numbered}
 use Rattle.units.specs.declared.Link.{Link}
 use Rattle.rules.specs.Tables.{Tables, lent}
 use Rattle.session.specs.Session.{Running}
-use Rattle.session.specs.Streaming.{AppendsFront}
+use Rattle.streams.specs.Writing.{AppendsFront}
 use Rattle.session.proofs.Whole.{session_refused, session_accepted, stops_refused, stops_accepted}
 use Rattle.session.proofs.run_on.Goals as goal
 

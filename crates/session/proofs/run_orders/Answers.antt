@@ -1,8 +1,9 @@
 -- `run_orders` meets its contract: the next order's line goes behind those before it.
 use Rattle.std.proofs.Common.{rules, ◌≡◌, ◌+◌, ◌++◌, [], ◌∷◌, List, ℕ, get_or, drop, drop_of_length-le, ap, ◌∙◌, arith}
 use Rattle.std.proofs.lemmas.List.{drop_more}
+use Rattle.streams.specs.Writing.{AppendsFront, pending}
 use Rattle.session.specs.Session.{lines}
-use Rattle.session.specs.Streaming.{AppendsFront, pending, running}
+use Rattle.session.specs.Streaming.{running}
 use Rattle.session.proofs.Runs.{next_after, one_more, one_fails, all_run, all_moved}
 use Rattle.session.proofs.run_orders.Given.{Over}
 use Rattle.session.proofs.run_orders.Goals as goal

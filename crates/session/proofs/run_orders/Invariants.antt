@@ -2,8 +2,9 @@
 use Rattle.std.proofs.Common.{◌≡◌, ◌+◌, ◌≤◌, ◌++◌, length, drop, true}
 use Rattle.rules.specs.Tables.{Fine}
 use Rattle.lent.specs.Lent.{tables_of}
+use Rattle.streams.specs.Writing.{Moves, pending}
 use Rattle.session.specs.Session.{lines, after}
-use Rattle.session.specs.Streaming.{Moves, pending, running}
+use Rattle.session.specs.Streaming.{running}
 use Rattle.session.proofs.run_orders.Given as goal
 
 abbrev pub invariant-loop-order : goal.invariant-loop-order

@@ -4,8 +4,7 @@ ghost use Rattle.std.specs.Prelude.{◌≡◌, ◌≤◌, ◌<◌, Bool, true, l
 ghost use Rattle.std.specs.Io.{ReadsAtMost};
 ghost use Rattle.std.specs.Io.KnownBytes.{Consumes, IsAtEnd};
 ghost use Rattle.layout.specs.Layout.{order_bytes};
-ghost use Rattle.session.specs.Session.{cut_short};
-ghost use Rattle.session.specs.Streaming.{ComesBehind, TakesStart, kept, block_bytes};
+ghost use Rattle.streams.specs.Reading.{cut_short, ComesBehind, TakesStart, kept, block_bytes};
 
 use layout::{FIRST_BYTES, LEAD_BYTES, ORDER_BYTES};
 use opening::records_size;
@@ -34,7 +33,7 @@ impl Input for Stdin {
 }
 
 // Reads until the buffer is full or the input ends, and answers how many bytes stand at its start then.
-pub(crate) fn read_full<R: Input>(input: &mut R, buffer: &mut [u8]) -> io::Result<usize>
+pub fn read_full<R: Input>(input: &mut R, buffer: &mut [u8]) -> io::Result<usize>
     ensures bound { ReadsAtMost result buffer.new }
     ensures came { IfOk result (λ n. Consumes (R.remaining input.old) (R.remaining input.new) (take n buffer.new)) }
     ensures end { IfOk result (λ n. n < length buffer.old → IsAtEnd (R.remaining input.new)) }
@@ -55,14 +54,14 @@ const BLOCK_BYTES: usize = 65_536;
 
 // The bytes of orders that have come and are not answered yet.
 #[derive(Drop)]
-pub(crate) struct Block {
-    pub(crate) bytes: [u8; BLOCK_BYTES],
-    pub(crate) kept: usize,
+pub struct Block {
+    pub bytes: [u8; BLOCK_BYTES],
+    pub kept: usize,
 }
 
 impl Block {
     // No byte has come.
-    pub(crate) fn new() -> Block
+    pub fn new() -> Block
         ensures { result.kept ≡ 0 }
     {
         Block {
@@ -73,7 +72,7 @@ impl Block {
 
     // Reads once, behind the bytes that are kept, and answers how many stand in the block then; no more only at the input's end.
     #[tactic(auto, using(crate::proofs::Came::came_behind))]
-    pub(crate) fn read_more<R: Input>(&mut self, input: &mut R) -> io::Result<usize>
+    pub fn read_more<R: Input>(&mut self, input: &mut R) -> io::Result<usize>
         requires { self.old.kept < order_bytes }
         ensures kept { self.new.kept ≡ self.old.kept }
         ensures within { IfOk result (λ size. size ≤ block_bytes) }
@@ -88,7 +87,7 @@ impl Block {
 
     // Keeps what is cut short of the bytes that stand in the block.
     #[tactic(auto, using(crate::proofs::Came::moved_down))]
-    pub(crate) fn keep(&mut self, size: usize)
+    pub fn keep(&mut self, size: usize)
         requires { size ≤ block_bytes }
         ensures short { self.new.kept < order_bytes }
         ensures bytes { kept self.new ≡ cut_short (take size self.old.bytes) }
@@ -100,10 +99,7 @@ impl Block {
 
 // Reads the first byte of a session and as many link records as it counts; answers how many bytes came. A count out of range has no
 // records to wait for.
-pub(crate) fn read_start<R: Input>(
-    input: &mut R,
-    first: &mut [u8; FIRST_BYTES],
-) -> io::Result<usize>
+pub fn read_start<R: Input>(input: &mut R, first: &mut [u8; FIRST_BYTES]) -> io::Result<usize>
     ensures bound { ReadsAtMost result first.new }
     ensures start { IfOk result (λ n. TakesStart (R.remaining input.old) (R.remaining input.new) (take n first.new)) }
     ensures fails { OnErr result (R.failed input.new ≡ true) }

@@ -2,8 +2,8 @@
 use Rattle.std.proofs.Common.{rules, sym, subst}
 use Rattle.std.proofs.KnownBytes.{Consumes-trans}
 use Rattle.std.specs.Io.KnownBytes.{Consumes}
-use Rattle.session.proofs.Came.{came_more}
-use Rattle.session.proofs.reader.read_full.Goals as goal
+use Rattle.streams.proofs.Came.{came_more}
+use Rattle.streams.proofs.reader.read_full.Goals as goal
 
 pub loop-done-preserved : goal.loop-done-preserved
 loop-done-preserved g c =

@@ -1,7 +1,7 @@
 -- The first `done` bytes are written, and no write has failed.
 use Rattle.std.proofs.Common.{◌≡◌, ◌≤◌, ◌-◌, true, length, take}
 use Rattle.std.specs.Io.KnownBytes.{Appends}
-use Rattle.session.proofs.writer.write_whole.Given as goal
+use Rattle.streams.proofs.writer.write_whole.Given as goal
 
 abbrev pub invariant-loop-done : goal.invariant-loop-done
 invariant-loop-done g l =

@@ -4,7 +4,7 @@ ghost use Rattle.std.specs.Prelude.{◌≡◌, ◌+◌, ◌≤◌, ◌<◌, Bool
 ghost use Rattle.std.specs.Io.{WritesAtMost};
 ghost use Rattle.std.specs.Io.KnownBytes.{Appends, WriteAppends};
 ghost use Rattle.report.specs.Line.{max_line};
-ghost use Rattle.session.specs.Streaming.{AppendsFront, Moves, pending};
+ghost use Rattle.streams.specs.Writing.{AppendsFront, Moves, pending};
 
 use report::MAX_LINE;
 use std::io::{self, ErrorKind, Stdout, Write};
@@ -36,7 +36,7 @@ impl Output for Stdout {
 }
 
 // Writes the bytes: all of them, or where a write fails some, from the first on.
-pub(crate) fn write_whole<W: Output>(output: &mut W, bytes: &[u8]) -> io::Result<()>
+pub fn write_whole<W: Output>(output: &mut W, bytes: &[u8]) -> io::Result<()>
     requires { W.intact output.old ≡ true }
     ensures intact { OnOk result (W.intact output.new ≡ true) }
     ensures whole { OnOk result (Appends (W.contents output.old) (W.contents output.new) bytes.now) }
@@ -55,15 +55,15 @@ pub(crate) fn write_whole<W: Output>(output: &mut W, bytes: &[u8]) -> io::Result
 
 // The lines that are to be written, and the place of the next.
 #[derive(Drop)]
-pub(crate) struct Lines {
-    pub(crate) bytes: [u8; LINES_BYTES],
-    pub(crate) used: usize,
-    pub(crate) place: u64,
+pub struct Lines {
+    pub bytes: [u8; LINES_BYTES],
+    pub used: usize,
+    pub place: u64,
 }
 
 impl Lines {
     // No line; the next is the first order's.
-    pub(crate) fn new() -> Lines
+    pub fn new() -> Lines
         ensures none { result.used ≡ 0 }
         ensures first { result.place ≡ 1 }
     {
@@ -75,7 +75,7 @@ impl Lines {
     }
 
     // Writes the lines out and begins the buffer again.
-    pub(crate) fn write_out<W: Output>(&mut self, output: &mut W) -> io::Result<()>
+    pub fn write_out<W: Output>(&mut self, output: &mut W) -> io::Result<()>
         requires within { self.old.used ≤ length self.old.bytes }
         requires intact { W.intact output.old ≡ true }
         ensures intact { OnOk result (W.intact output.new ≡ true) }
@@ -92,7 +92,7 @@ impl Lines {
     }
 
     // Writes the lines out where another might not fit behind them.
-    pub(crate) fn make_room<W: Output>(&mut self, output: &mut W) -> io::Result<()>
+    pub fn make_room<W: Output>(&mut self, output: &mut W) -> io::Result<()>
         requires within { self.old.used ≤ length self.old.bytes }
         requires intact { W.intact output.old ≡ true }
         ensures intact { OnOk result (W.intact output.new ≡ true) }

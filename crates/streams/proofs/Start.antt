@@ -9,7 +9,7 @@ use Rattle.std.proofs.Math.Seq.{take-append_seam, take-append-add, drop-append_s
 use native.Mathlib.Decide.{dec_lt}
 use Rattle.opening.specs.Opened.{first_size, records_size}
 use Rattle.opening.proofs.First.{size_counted, size_uncounted}
-use Rattle.session.specs.Streaming.{TakesStart}
+use Rattle.streams.specs.Reading.{TakesStart}
 
 -- the first byte alone tells the size
 pub size_front : (start rest : List ℕ) → 1 ≤ length start → first_size (start ++ rest) ≡ first_size start

@@ -6,8 +6,7 @@ use Rattle.std.specs.Prelude.{Option}
 use Rattle.std.specs.Io.KnownBytes.{Consumes}
 use Rattle.std.specs.List.{copy_within}
 use Rattle.layout.specs.Layout.{order_bytes}
-use Rattle.session.specs.Session.{cut_short}
-use Rattle.session.specs.Streaming.{ComesBehind}
+use Rattle.streams.specs.Reading.{cut_short, ComesBehind}
 use borrow.Rule.Slice.PartMut.{put_mid}
 
 -- the part of a buffer behind its first d bytes is handed back with n new bytes at its start

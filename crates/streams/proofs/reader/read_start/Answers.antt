@@ -1,7 +1,7 @@
 -- `read_start` meets its contract: the first byte, and the records that it counts.
 use Rattle.std.proofs.Common.{rules}
-use Rattle.session.proofs.Start.{lead_alone, lead_and_records}
-use Rattle.session.proofs.reader.read_start.Goals as goal
+use Rattle.streams.proofs.Start.{lead_alone, lead_and_records}
+use Rattle.streams.proofs.reader.read_start.Goals as goal
 
 pub returns-in_default-clause-start : goal.returns-in_default-clause-start
 returns-in_default-clause-start g c =

@@ -2,8 +2,8 @@
 use Rattle.std.proofs.Common.{rules, ◌-◌, ◌≤◌, length, sym, subst, arith}
 use Rattle.std.specs.Io.KnownBytes.{Appends}
 use Rattle.std.proofs.KnownBytes.{Appends-trans}
-use Rattle.session.proofs.Came.{take_behind}
-use Rattle.session.proofs.writer.write_whole.Goals as goal
+use Rattle.streams.proofs.Came.{take_behind}
+use Rattle.streams.proofs.writer.write_whole.Goals as goal
 
 pub loop-done-preserved : goal.loop-done-preserved
 loop-done-preserved g c =
