@@ -13,10 +13,10 @@ use Rattle.rules.specs.Sound.{BookingRight}
 
 -- a head with another clock, and with another number of bookings
 abbrev pub with_clock : Head → ℕ → Head
-with_clock head m = record { clock = record { 0 = m }; links = head.links; bookings = head.bookings }
+with_clock head m = record { clock = record { 0 = m }; links = head.links; bookings = head.bookings; guard = head.guard }
 
 abbrev pub with_count : Head → ℕ → Head
-with_count head n = record { clock = head.clock; links = head.links; bookings = n }
+with_count head n = record { clock = head.clock; links = head.links; bookings = n; guard = head.guard }
 
 -- the booking of a request at a start, on a path
 abbrev pub booked : ℕ → Request → Minute → Path → Booking

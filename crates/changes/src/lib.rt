@@ -16,7 +16,7 @@ use lent::Desk;
 use path_search::Path;
 use places::{drop_ended, find, remove_place, slot};
 use rebuild::{RightBooking, add_booking, rebuild};
-use units::{Head, Minute, PLACE, Request};
+use units::{Duration, Head, Minute, PLACE, Request};
 
 // Writes a head, and the events and free figures anew from it and the book.
 fn rebuild_desk(desk: &mut Desk<'_>, head: Head)
@@ -30,16 +30,17 @@ fn rebuild_desk(desk: &mut Desk<'_>, head: Head)
     *desk.head = head;
 }
 
-// The tables of a desk that was just set up.
-pub fn reset(desk: &mut Desk<'_>)
+// The tables of a desk that was just set up with a guard.
+pub fn reset(desk: &mut Desk<'_>, guard: Duration)
     requires { sized desk.old.links.now (tables_of desk.old) ≡ true }
     ensures loans { SameLoans desk.old desk.new }
-    ensures tables { tables_of desk.new ≡ tables desk.old.links.now empty }
+    ensures tables { tables_of desk.new ≡ tables desk.old.links.now (empty guard.0) }
 {
     let head = Head {
         clock: Minute(0),
         links: desk.links.len() as u32,
         bookings: 0,
+        guard,
     };
     desk.book.fill(0);
     rebuild_desk(desk, head);

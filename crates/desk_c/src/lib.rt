@@ -14,9 +14,10 @@ use desk_core::{
     Listed, Shown, cancel, list_starts, make_booking, move_clock, offer, set_up, show,
 };
 use lent::{Desk, LentTables};
-use units::{Head, Link, LinkNumber, Minute, Request, refusal_number};
+use units::{Duration, Head, Link, LinkNumber, Minute, Request, refusal_number};
 
-// Sets a desk up at minute 0, with no bookings and all capacity free, whatever the tables held. Refuses 1 and 2.
+// Sets a desk up at minute 0 with a guard, with no bookings and all capacity free, whatever the tables held. Refuses 1, 4 and 2,
+// in this order.
 #[unsafe(no_mangle)]
 pub extern "C" fn gcr_set_up(
     head: &mut Head,
@@ -24,10 +25,11 @@ pub extern "C" fn gcr_set_up(
     events: &mut [u32],
     free: &mut [u32],
     book: &mut [u32],
+    guard: Duration,
 ) -> u32
     ensures { let t = lent head.old events.old free.old book.old in
-        (result ≡ refusal_answer links.now t set_up)
-        × (lent head.new events.new free.new book.new ≡ tables_after links.now t set_up) }
+        (result ≡ refusal_answer links.now t (set_up guard.0))
+        × (lent head.new events.new free.new book.new ≡ tables_after links.now t (set_up guard.0)) }
 {
     let mut desk = Desk {
         head,
@@ -36,7 +38,7 @@ pub extern "C" fn gcr_set_up(
         free,
         book,
     };
-    refusal_number(set_up(&mut desk))
+    refusal_number(set_up(&mut desk, guard))
 }
 
 // Books the earliest start of the request's window. Refuses 1, 3, 4, 5, 6, 7 and 8.

@@ -1,11 +1,11 @@
--- Document 01's start of a session: the first byte, the links, then the set-up, each check in its order.
+-- Document 01's start of a session: the first byte, the guard, the links, then the set-up, each check in its order.
 use Rattle.std.specs.Prelude.{List, [], map, Bool, ℕ, ◌+◌, ◌*◌, leb, eqb, length, get_or, take, drop, Option, None, Some, Result, Ok, Err, is_err}
 use Rattle.units.specs.declared.Link.{Link}
 use Rattle.units.specs.Limits.{most_links}
 use Rattle.units.specs.Lists.{within, if_so, count_from}
 use Rattle.units.specs.Search as search
 use Rattle.units.specs.declared.Refusal.{Refusal}
-use Rattle.layout.specs.Layout.{lead_bytes, link_bytes}
+use Rattle.layout.specs.Layout.{count_bytes, lead_bytes, link_bytes}
 use Rattle.units.specs.Refusals.{bad_size, bad_length, number, number_of}
 use Rattle.layout.specs.Records.{if_passed, link_read}
 use Rattle.layout.specs.Values.{link_values}
@@ -16,7 +16,7 @@ use Rattle.rules.specs.Calls.{set_up, values}
 use Rattle.rules.specs.Tables.{Tables}
 use Rattle.rules.specs.Desk.{Outcome, outcome}
 
--- what the record of link i, behind the first byte, is read as
+-- what the record of link i, behind the count and the guard, is read as
 unfoldable pub link_record : List ℕ → ℕ → Result Link Refusal
 link_record bytes i = link_read (take link_bytes (drop (lead_bytes + i * link_bytes) bytes))
 
@@ -40,16 +40,22 @@ links_in bytes n = map (λ i. (link_values (link_record bytes i)).link) (count_f
 abbrev pub first_byte : List ℕ → ℕ
 first_byte bytes = get_or bytes 0 0
 
--- how many bytes of link records a first byte counts; none where its count is out of range
-abbrev pub records_size : ℕ → Option ℕ
-records_size count = if_passed (within 1 most_links count) (Some (count * link_bytes)) None
+-- document 02's 'a second byte, the guard'
+abbrev pub guard_byte : List ℕ → ℕ
+guard_byte bytes = get_or bytes 1 0
 
--- 'one byte with the count of links, the links, then orders': how many bytes stand before the orders. A count out of range has no links
--- behind it
+-- how many bytes a first byte has behind it before the orders: the guard and as many link records as it counts; none where its count is
+-- out of range
+abbrev pub rest_size : ℕ → Option ℕ
+rest_size count = if_passed (within 1 most_links count) (Some (1 + count * link_bytes)) None
+
+-- 'one byte with the count of links', the guard, 'the links, then orders': how many bytes stand before the orders. A count out of range has
+-- nothing behind it
 unfoldable pub first_size : List ℕ → ℕ
-first_size bytes = lead_bytes + if_so (within 1 most_links (first_byte bytes)) (first_byte bytes * link_bytes)
+first_size bytes = count_bytes + if_so (within 1 most_links (first_byte bytes)) (1 + first_byte bytes * link_bytes)
 
--- 'a first byte (12), its range (1), enough bytes for the links (12), each record in turn (11)'; 0 if all are passed
+-- 'a first byte (12), its range (1), enough bytes for the links (12), each record in turn (11)'; 0 if all are passed. Where the guard is
+-- missing (12) there aren't enough bytes for the links
 unfoldable pub bytes_refusal : List ℕ → ℕ
 bytes_refusal bytes =
     if_passed (eqb (length bytes) 0) bad_length
@@ -67,13 +73,13 @@ Opened = kinds.Outcome Told Tables
 abbrev pub with_outcome : List Link → Outcome → Opened
 with_outcome links o = record { answer = record { refusal = (values o.answer).number; links = links }; tables = o.tables }
 
--- 'then the set-up (2)'
-abbrev pub by_set_up : Tables → List Link → Opened
-by_set_up t links = with_outcome links (outcome links t set_up)
+-- 'then the set-up (2)', with that guard, whose range comes first (4)
+abbrev pub by_set_up : Tables → List Link → ℕ → Opened
+by_set_up t links guard = with_outcome links (outcome links t (set_up guard))
 
 -- what the first bytes of a session give
 unfoldable pub opened : Tables → List ℕ → Opened
-opened t bytes = if_passed (eqb (bytes_refusal bytes) 0) (by_set_up t (links_in bytes (first_byte bytes))) (record { answer = record { refusal = bytes_refusal bytes; links = [] }; tables = t })
+opened t bytes = if_passed (eqb (bytes_refusal bytes) 0) (by_set_up t (links_in bytes (first_byte bytes)) (guard_byte bytes)) (record { answer = record { refusal = bytes_refusal bytes; links = [] }; tables = t })
 
 -- 'on refusal it writes `desk refused N`', otherwise `desk links N`
 abbrev pub desk_report : Result ℕ Refusal → Report

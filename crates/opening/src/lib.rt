@@ -8,14 +8,14 @@ ghost use Rattle.layout.specs.Layout.{lead_bytes, link_bytes};
 ghost use Rattle.rules.specs.Tables.{lent, Fine};
 ghost use Rattle.report.specs.Line.{line, max_line};
 ghost use Rattle.report.specs.Written.{Wrote};
-ghost use Rattle.opening.specs.Opened.{links_refusal, links_in, first_byte, records_size, bytes_refusal, opened, desk_report};
+ghost use Rattle.opening.specs.Opened.{links_refusal, links_in, first_byte, rest_size, bytes_refusal, opened, desk_report};
 
 use desk_core::set_up;
-use layout::{LEAD_BYTES, LINK_BYTES};
+use layout::{COUNT_BYTES, LEAD_BYTES, LINK_BYTES};
 use lent::Desk;
 use reading::read_link;
 use report::{Report, write_line};
-use units::{Head, LINKS, Link, Refusal};
+use units::{Duration, Head, LINKS, Link, Refusal};
 
 // Reads a link record for each place in turn, up to the first that cannot be read.
 fn read_links(bytes: &[u8], links: &mut [Link]) -> Result<(), Refusal>
@@ -30,30 +30,33 @@ fn read_links(bytes: &[u8], links: &mut [Link]) -> Result<(), Refusal>
     Ok(())
 }
 
-// How many bytes of link records a first byte counts: none where its count is out of range.
-pub fn records_size(count: u8) -> Option<usize>
-    ensures { result ≡ records_size count }
+// How many bytes a first byte has behind it before the orders, the guard and the link records; none where its count is out of
+// range.
+pub fn rest_size(count: u8) -> Option<usize>
+    ensures { result ≡ rest_size count }
 {
     let count = usize::from(count);
     if !(1..=LINKS).contains(&count) {
         return None;
     }
-    Some(count * LINK_BYTES)
+    Some(1 + count * LINK_BYTES)
 }
 
-// The links of a session's first bytes: 12 without a first byte, 1 for its range, 12 for too few bytes, 11 for a record.
+// The links of a session's first bytes: 12 without a first byte, 1 for its range, 12 for too few bytes, with or without a guard, 11
+// for a record.
 #[tactic(auto, unfolding(crate::specs::Opened::bytes_refusal))]
 fn session_links<'a>(bytes: &[u8], places: &'a mut [Link; LINKS]) -> Result<&'a [Link], Refusal>
     ensures refusal { number_of result ≡ bytes_refusal bytes.now }
+    ensures enough { IfOk result (λ _. lead_bytes ≤ length bytes.now) }
     ensures links { IfOk result (λ links. links.now ≡ links_in bytes.now (first_byte bytes.now)) }
 {
     let Some(&first) = bytes.first() else {
         return Err(Refusal::BadLength);
     };
-    let Some(size) = records_size(first) else {
+    let Some(size) = rest_size(first) else {
         return Err(Refusal::BadSize);
     };
-    if bytes.len() < LEAD_BYTES + size {
+    if bytes.len() < COUNT_BYTES + size {
         return Err(Refusal::BadLength);
     }
     let links = &mut places[..usize::from(first)];
@@ -62,7 +65,7 @@ fn session_links<'a>(bytes: &[u8], places: &'a mut [Link; LINKS]) -> Result<&'a 
 }
 
 // Opens a desk from the first bytes of a session and answers its links, which stand in the lent places: the refusals of the
-// links, then those of set-up.
+// bytes, then those of set-up.
 #[tactic(auto, unfolding(crate::specs::Opened::opened, sound_calls::specs::Lent::refusal_answer, sound_calls::specs::Lent::tables_after))]
 pub fn open_desk<'a>(
     bytes: &[u8],
@@ -78,6 +81,7 @@ pub fn open_desk<'a>(
     ensures tables { lent head.new events.new free.new book.new ≡ (opened (lent head.old events.old free.old book.old) bytes.now).tables }
 {
     let links = session_links(bytes, places)?;
+    let guard = Duration(u32::from(bytes[COUNT_BYTES]));
     let mut desk = Desk {
         head,
         links,
@@ -85,7 +89,7 @@ pub fn open_desk<'a>(
         free,
         book,
     };
-    set_up(&mut desk)?;
+    set_up(&mut desk, guard)?;
     Ok(links)
 }
 

@@ -14,8 +14,8 @@ use limits::{links_right, number_ok, request_ok, sized};
 use places::find;
 use soundness::sound;
 use units::{
-    BOOKINGS, Head, LIST_FIGURES, LinkNumber, MAX_MINUTE, MAX_SHOWN, Minute, PLACE, Refusal,
-    Request, low_minute,
+    BOOKINGS, Duration, Head, LIST_FIGURES, LinkNumber, MAX_GUARD, MAX_MINUTE, MAX_SHOWN, Minute,
+    PLACE, Refusal, Request, low_minute,
 };
 
 // The first check of its own that an offer does not pass.
@@ -91,12 +91,15 @@ pub fn check_show(tables: &LentTables<'_>, link: LinkNumber, minute: Minute) -> 
     Ok(())
 }
 
-// The first check that a set-up does not pass: the sizes of what is lent, and the links.
-pub fn check_set_up(tables: &LentTables<'_>) -> Result<(), Refusal>
-    ensures { number_of result ≡ first_refusal (table_checks tables.now.links.now (tables_in tables.now) set_up) }
+// The first check that a set-up does not pass: the sizes of what is lent, the guard, and the links.
+pub fn check_set_up(tables: &LentTables<'_>, guard: Duration) -> Result<(), Refusal>
+    ensures { number_of result ≡ first_refusal (table_checks tables.now.links.now (tables_in tables.now) (set_up guard.0)) }
 {
     if !sized(tables) {
         return Err(Refusal::BadSize);
+    }
+    if MAX_GUARD < guard.0 {
+        return Err(Refusal::BadField);
     }
     if !links_right(tables.links) {
         return Err(Refusal::BadLink);

@@ -2,25 +2,48 @@
 use mathlib.Core.Path.{◌≡◌, refl}
 use Prim.Native.Nat.{ℕ}
 use Rattle.rules.specs.Plain.{Plain}
-use Rattle.rules.specs.Calls.{book, offer, list, cancel, move_clock, show, Call, set_up_with, ask, refuse, next}
+use Rattle.rules.specs.Calls.{Ask, book, offer, list, cancel, move_clock, show, Call, set_up_with, ask, Answer, done, starts, lists, shows, refused, refuse, next}
 use Rattle.rules.specs.Feeding.{RightlyFed}
 
-refused : (p : Plain) (c : Call) (k : ℕ) → next p c (refuse k) ≡ p
-refused p (set_up_with s) k = refl
-refused p (ask (book n r)) k = refl
-refused p (ask (offer r)) k = refl
-refused p (ask (list n r)) k = refl
-refused p (ask (cancel n)) k = refl
-refused p (ask (move_clock m)) k = refl
-refused p (ask (show l m)) k = refl
+refusal_kept : (p : Plain) (c : Call) (k : ℕ) → next p c (refuse k) ≡ p
+refusal_kept p (set_up_with s) k = refl
+refusal_kept p (ask (book n r)) k = refl
+refusal_kept p (ask (offer r)) k = refl
+refusal_kept p (ask (list n r)) k = refl
+refusal_kept p (ask (cancel n)) k = refl
+refusal_kept p (ask (move_clock m)) k = refl
+refusal_kept p (ask (show l m)) k = refl
+
+guard_kept : (p : Plain) (a : Ask) (answer : Answer) → (next p (ask a) answer).guard ≡ p.guard
+guard_kept p (book n r) done = refl
+guard_kept p (book n r) (starts g) = refl
+guard_kept p (book n r) (lists rs) = refl
+guard_kept p (book n r) (shows x) = refl
+guard_kept p (book n r) (refused k) = refl
+guard_kept p (offer r) answer = refl
+guard_kept p (list n r) answer = refl
+guard_kept p (cancel n) done = refl
+guard_kept p (cancel n) (starts g) = refl
+guard_kept p (cancel n) (lists rs) = refl
+guard_kept p (cancel n) (shows x) = refl
+guard_kept p (cancel n) (refused k) = refl
+guard_kept p (move_clock m) done = refl
+guard_kept p (move_clock m) (starts g) = refl
+guard_kept p (move_clock m) (lists rs) = refl
+guard_kept p (move_clock m) (shows x) = refl
+guard_kept p (move_clock m) (refused k) = refl
+guard_kept p (show l m) answer = refl
 
 pub rightly_fed : RightlyFed
 rightly_fed = record {
-  set_up_empties = λ p. (refl, refl);
+  set_up_empties = λ p guard. (refl, refl);
+  set_up_guards = λ p guard. refl;
+  guard_stays = guard_kept;
   booking_adds = λ p n r g. (refl, refl);
   clock_set = λ p m. refl;
+  ended_dropped = λ p m. refl;
   offer_keeps = λ p r a. refl;
   listing_keeps = λ p n r a. refl;
   showing_keeps = λ p l m a. refl;
-  refusal_keeps = refused;
+  refusal_keeps = refusal_kept;
 }

@@ -24,12 +24,12 @@ pub data Ask : Type 0 where
   move_clock : ℕ → Ask
   show : ℕ → ℕ → Ask
 
--- a set-up is asked with nothing but what it is lent
+-- a set-up is asked with the guard
 abbrev pub Call : Type 0
-Call = kinds.Call (Unit {0}) Ask
+Call = kinds.Call ℕ Ask
 
-abbrev pub set_up : Call
-set_up = set_up_with tt
+abbrev pub set_up : ℕ → Call
+set_up guard = set_up_with guard
 
 pub record Refusal : Type 0 where
   pub number : ℕ
@@ -159,7 +159,7 @@ take_out n p = with_book p (without (λ b. b.number) n p.bookings)
 
 -- at clock m, with the bookings that still stand then
 abbrev pub move_to : ℕ → Plain → Plain
-move_to m p = record { clock = m; bookings = standing_at (until p) m p.bookings }
+move_to m p = record { clock = m; guard = p.guard; bookings = standing_at (until p) m p.bookings }
 
 -- x where the answer is `done`, else y
 abbrev pub on_done : {A : Type 0} → Answer → A → A → A
@@ -179,7 +179,7 @@ on_start (refused r) f y = y
 
 -- the plain book after a call, from the call as asked and answered and nothing else
 abbrev pub next : Plain → Call → Answer → Plain
-next p (set_up_with s) a = on_done a empty p
+next p (set_up_with guard) a = on_done a (empty guard) p
 next p (ask (book n r)) a = on_start a (λ g. put_in (record { number = n; terms = terms r; grant = g }) p) p
 next p (ask (offer r)) a = p
 next p (ask (list n r)) a = p

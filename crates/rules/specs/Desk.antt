@@ -1,6 +1,6 @@
 -- The bandwidth desk as a kind of desk, and what each call makes of any tables.
 use Rattle.std.specs.Prelude.{◌≡◌, ℕ, ◌+◌, ◌≤◌, ◌<◌, length}
-use mathlib.Core.List.{List, [], Perm}
+use mathlib.Core.List.{List, [], ◌∷◌, Perm}
 use Rattle.units.specs.declared.Link.{Link}
 use Rattle.units.specs.Limits.{last_shown}
 use Rattle.free_table.specs.Figures.{kept}
@@ -8,11 +8,11 @@ use Rattle.histories.specs.Kinds.{Kind}
 use Rattle.histories.specs.Kinds as kinds
 use Rattle.rules.specs.Plain.{Plain, empty, taken, capacity}
 use Rattle.rules.specs.Calls.{Ask, Call, Answer, show, done, shows, refuse, values, own_checks, result, InForm, writes, next}
-use Rattle.rules.specs.Tables.{Tables, tables, held, sound, table_checks}
+use Rattle.rules.specs.Tables.{Tables, tables, held, sound, guard_check, table_checks}
 
--- the clock and the standing bookings agree
+-- the clock, the guard and the standing bookings agree
 abbrev pub Agree : Plain → Plain → Type 0
-Agree p q = (p.clock ≡ q.clock) × Perm p.bookings q.bookings
+Agree p q = (p.clock ≡ q.clock) × (p.guard ≡ q.guard) × Perm p.bookings q.bookings
 
 -- document 01's 'no link is oversold', in any minute
 abbrev pub NotOversold : List Link → Plain → Type 0
@@ -29,7 +29,7 @@ Keeps t l m x = kept t.events t.free l m ≡ x
 abbrev pub bandwidth_desk : Kind
 bandwidth_desk = record {
   Link = Link;
-  Start = Unit {0};
+  Start = ℕ;
   Ask = Ask;
   Answer = Answer;
   Plain = Plain;
@@ -38,12 +38,12 @@ bandwidth_desk = record {
   refuse = refuse;
   number = λ a. (values a).number;
   table_checks = table_checks;
-  start_checks = λ s. [];
+  start_checks = λ guard. guard_check guard ∷ [];
   own_checks = own_checks;
   result = result;
   InForm = InForm;
   writes = writes;
-  empty = λ s. empty;
+  empty = empty;
   next = λ links. next;
   clock = λ p. p.clock;
   Agree = Agree;

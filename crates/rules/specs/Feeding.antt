@@ -1,19 +1,24 @@
--- What document 01 says of the plain book as it is fed, but for which bookings a cancellation and a clock move take out. The tables
--- that a call leaves are those of the plain book's next state, so that state has to be right by itself.
-use Rattle.std.specs.Prelude.{◌≡◌, [], ◌∷◌, ℕ}
+-- What document 01 says of the plain book as it is fed, but for which booking a cancellation takes out. The tables that a call
+-- leaves are those of the plain book's next state, so that state has to be right by itself.
+use Rattle.std.specs.Prelude.{◌≡◌, [], ◌∷◌, ℕ, ◌+◌, ltb}
 use Rattle.units.specs.declared.Request.{Request}
+use Rattle.units.specs.Lists.{select}
 use Rattle.choice.specs.Choice.{Grant}
 use Rattle.rules.specs.Plain.{Plain, terms}
-use Rattle.rules.specs.Calls.{book, offer, list, move_clock, show, Call, set_up, ask, Answer, done, starts, refuse, next}
+use Rattle.rules.specs.Calls.{Ask, book, offer, list, move_clock, show, Call, set_up, ask, Answer, done, starts, refuse, next}
 
 pub record RightlyFed : Type 0 where
-  -- 'set-up makes the clock 0 and the list empty'
-  pub set_up_empties : (p : Plain) → ((next p set_up done).clock ≡ 0) × ((next p set_up done).bookings ≡ [])
+  -- 'set-up makes the clock 0 and the list empty', and 'writes the guard as asked'
+  pub set_up_empties : (p : Plain) (guard : ℕ) → ((next p (set_up guard) done).clock ≡ 0) × ((next p (set_up guard) done).bookings ≡ [])
+  pub set_up_guards : (p : Plain) (guard : ℕ) → (next p (set_up guard) done).guard ≡ guard
+  -- which no other call changes
+  pub guard_stays : (p : Plain) (a : Ask) (answer : Answer) → (next p (ask a) answer).guard ≡ p.guard
   -- 'booking adds one, start and path as answered, the rest as asked', and the clock stays
   pub booking_adds : (p : Plain) (n : ℕ) (r : Request) (g : Grant)
       → ((next p (ask (book n r)) (starts g)).bookings ≡ record { number = n; terms = terms r; grant = g } ∷ p.bookings) × ((next p (ask (book n r)) (starts g)).clock ≡ p.clock)
-  -- 'a clock move sets the clock'
+  -- 'a clock move sets the clock and takes out all whose end is at or before it', which goes by 'end plus guard'
   pub clock_set : (p : Plain) (m : ℕ) → (next p (ask (move_clock m)) done).clock ≡ m
+  pub ended_dropped : (p : Plain) (m : ℕ) → (next p (ask (move_clock m)) done).bookings ≡ select (λ b. ltb m (b.grant.start + b.terms.duration + p.guard)) p.bookings
   -- 'offers, showings and refused calls change nothing', nor do listings
   pub offer_keeps : (p : Plain) (r : Request) (a : Answer) → next p (ask (offer r)) a ≡ p
   pub listing_keeps : (p : Plain) (n : ℕ) (r : Request) (a : Answer) → next p (ask (list n r)) a ≡ p

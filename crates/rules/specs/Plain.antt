@@ -1,4 +1,4 @@
--- Document 01's plain book: a clock and a list of bookings, with no table in sight, and what they leave free.
+-- Document 01's plain book: a clock, a guard and a list of bookings, with no table in sight, and what they leave free.
 use Rattle.std.specs.Prelude.{List, [], map, Bool, ℕ, ◌-◌, length, get_or}
 use Rattle.units.specs.declared.Link.{Link}
 use Rattle.units.specs.declared.Request.{Request}
@@ -26,18 +26,20 @@ pub record Booking : Type 0 where
 -- document 01's plain book; the order of its bookings doesn't count
 pub record Plain : Type 0 where
   pub clock : ℕ
+  pub guard : ℕ
   pub bookings : List Booking
 
-abbrev pub empty : Plain
-empty = record { clock = 0; bookings = [] }
+-- as a set-up with that guard makes it
+abbrev pub empty : ℕ → Plain
+empty guard = record { clock = 0; guard = guard; bookings = [] }
 
 -- the same plain book with other bookings
 abbrev pub with_book : Plain → List Booking → Plain
-with_book p bs = record { clock = p.clock; bookings = bs }
+with_book p bs = record { clock = p.clock; guard = p.guard; bookings = bs }
 
 -- the minutes for which links are held
 abbrev pub span : Plain → Terms → ℕ
-span p t = held_for t.duration
+span p t = held_for t.duration p.guard
 
 -- the minute from which on b holds nothing and no longer stands
 abbrev pub until : Plain → Booking → ℕ

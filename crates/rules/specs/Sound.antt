@@ -1,7 +1,7 @@
 -- What sound tables are, read without a test: document 01's rules for links, clock and book, and the tables that they give.
 use Rattle.std.specs.Prelude.{◌≡◌, ◌↔◌, ◌≢◌, List, true, ◌≤◌, ◌<◌, length}
 use Rattle.units.specs.declared.Link.{Link}
-use Rattle.units.specs.Limits.{last_node, most_bookings, last_number, most_bandwidth, longest, last_minute}
+use Rattle.units.specs.Limits.{last_node, most_bookings, last_number, most_bandwidth, longest, last_minute, most_guard}
 use Rattle.units.specs.Lists.{Within, All, Distinct}
 use Rattle.path_search.specs.Paths.{PathRight}
 use Rattle.rules.specs.Plain.{Booking, Plain, until, graph}
@@ -26,6 +26,7 @@ pub record BookingRight (links : List Link) (p : Plain) (b : Booking) : Type 0 w
 pub record Obeys (links : List Link) (p : Plain) : Type 0 where
   pub links_right : All LinkRight links
   pub clock_right : p.clock ≤ last_minute
+  pub guard_right : p.guard ≤ most_guard
   pub not_too_many : length p.bookings ≤ most_bookings
   pub numbers_differ : Distinct (numbers p.bookings)
   pub bookings_right : All (BookingRight links p) p.bookings

@@ -3,7 +3,7 @@ use Rattle.std.specs.Prelude.{◌≡◌, Bool, true, ◌&&◌, ℕ, ◌*◌, leb
 use mathlib.Core.List.{List, [], ◌∷◌, map, flatten}
 use Rattle.units.specs.declared.Link.{Link}
 use Rattle.units.specs.declared.Head.{Head}
-use Rattle.units.specs.Limits.{most_links, most_hops, most_bookings, most_bandwidth, longest, last_minute, most_events, place_size}
+use Rattle.units.specs.Limits.{most_links, most_hops, most_bookings, most_bandwidth, longest, last_minute, most_guard, most_events, place_size}
 use Rattle.units.specs.Refusals as refusals
 use Rattle.units.specs.Lists.{within, count_from, padded, equal, rising, all}
 use Rattle.units.specs.Search.{all_from}
@@ -56,7 +56,7 @@ abbrev pub events_of : Plain → List ℕ
 events_of p = events p.clock (flatten (map (times p) p.bookings))
 
 abbrev pub head_of : List Link → Plain → Head
-head_of links p = record { clock = record { 0 = p.clock }; links = length links; bookings = length p.bookings }
+head_of links p = record { clock = record { 0 = p.clock }; links = length links; bookings = length p.bookings; guard = record { 0 = p.guard } }
 
 abbrev pub event_table : Plain → List ℕ
 event_table p = padded most_events (events_of p)
@@ -75,9 +75,9 @@ tables links p = record { head = head_of links p; events = event_table p; free =
 abbrev pub booking_at : List ℕ → ℕ → Booking
 booking_at t i = booking_of (booking_in t i)
 
--- the plain book of a head and a book table: the head's clock, and as many places as it counts
+-- the plain book of a head and a book table: the head's clock and guard, and as many places as it counts
 abbrev pub held_by : Head → List ℕ → Plain
-held_by head places = record { clock = head.clock.0; bookings = map (booking_at places) (count_from 0 head.bookings) }
+held_by head places = record { clock = head.clock.0; guard = head.guard.0; bookings = map (booking_at places) (count_from 0 head.bookings) }
 
 -- the plain book that tables hold
 abbrev pub held : Tables → Plain
@@ -101,7 +101,7 @@ none_oversold links p m = all_from 0 (length links) (λ l. leb (taken p l m) (ca
 abbrev pub same : Tables → Tables → Bool
 same s t =
     eqb s.head.clock.0 t.head.clock.0 && eqb s.head.links t.head.links && eqb s.head.bookings t.head.bookings
-    && equal s.events t.events && equal s.free t.free && equal s.book t.book
+    && eqb s.head.guard.0 t.head.guard.0 && equal s.events t.events && equal s.free t.free && equal s.book t.book
 
 -- the sizes that document 01 states: of the link list, events, free figures and book
 abbrev pub sizes_ok : ℕ → ℕ → ℕ → ℕ → Bool
@@ -114,7 +114,7 @@ sized links t = sizes_ok (length links) (length t.events) (length t.free) (lengt
 -- a standing booking that holds a link before the clock holds it at the clock
 unfoldable pub sound_with : List Link → Tables → Plain → Bool
 sound_with links t p =
-    links_ok links && leb p.clock last_minute && leb t.head.bookings most_bookings && rising 0 (numbers p.bookings)
+    links_ok links && leb p.clock last_minute && leb p.guard most_guard && leb t.head.bookings most_bookings && rising 0 (numbers p.bookings)
     && all (booking_ok links p) p.bookings && all (none_oversold links p) (events_of p) && same t (tables links p)
 
 unfoldable pub sound : List Link → Tables → Bool
@@ -124,9 +124,13 @@ sound links t = sound_with links t (held t)
 abbrev pub lent_checks : List Link → Tables → Bool → List Check
 lent_checks links t fits = check refusals.bad_size (sized links t) ∷ check refusals.bad_list fits ∷ check refusals.unsound (sound links t) ∷ []
 
+-- document 02's check of a set-up's guard
+abbrev pub guard_check : ℕ → Check
+guard_check guard = check refusals.bad_field (leb guard most_guard)
+
 -- the checks of the tables, which come first
 abbrev pub table_checks : List Link → Tables → Call → List Check
-table_checks links t (set_up_with s) = check refusals.bad_size (sized links t) ∷ check refusals.bad_link (links_ok links) ∷ []
+table_checks links t (set_up_with guard) = check refusals.bad_size (sized links t) ∷ guard_check guard ∷ check refusals.bad_link (links_ok links) ∷ []
 table_checks links t (ask a) = lent_checks links t (list_fits a)
 
 -- the tables as they are lent

@@ -24,7 +24,7 @@ use report::MAX_LINE;
 use std::io;
 use streams::reader::{Block, Input, read_start};
 use streams::writer::{Lines, Output, write_whole};
-use units::{BOOK_FIGURES, Bandwidth, EVENTS, FREE_FIGURES, Head, LINKS, Link, Minute, Refusal};
+use units::{BOOK_FIGURES, Bandwidth, Duration, EVENTS, FREE_FIGURES, Head, LINKS, Link, Minute, Refusal};
 
 // The turns of the loop over the pieces of an input: no input has as many.
 const MOST_TURNS: u64 = 1 << 51;
@@ -283,6 +283,7 @@ pub fn run_session<R: Input, W: Output>(input: &mut R, output: &mut W) -> io::Re
         clock: Minute(0),
         links: 0,
         bookings: 0,
+        guard: Duration(0),
     };
     let mut places = [Link {
         from: 0,

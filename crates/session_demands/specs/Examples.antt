@@ -1,10 +1,10 @@
 -- Document 01's worked session, as a file of bytes and as the text that it prints.
 use Rattle.std.specs.Prelude.{◌≡◌, List, [], ◌∷◌, ◌++◌, ℕ, codes}
 
--- 153 bytes: the count of links, three links, eight orders
+-- 154 bytes: the count of links, the guard, three links, eight orders
 abbrev pub session_bytes : List ℕ
 session_bytes =
-    0x03 ∷ []
+    0x03 ∷ 0x00 ∷ []
     -- link 0: from 0 to 1, 10 Mb/s; link 1: from 1 to 2, 10; link 2: from 0 to 2, 4
     ++ 0x00 ∷ 0x40 ∷ 0x00 ∷ 0x28 ∷ 0x00 ∷ 0x00 ∷ 0x00 ∷ 0x00 ∷ []
     ++ 0x08 ∷ 0x80 ∷ 0x00 ∷ 0x28 ∷ 0x00 ∷ 0x00 ∷ 0x00 ∷ 0x00 ∷ []
@@ -42,13 +42,18 @@ session_text =
 abbrev pub PrintsSession : (List ℕ → List ℕ) → Type 0
 PrintsSession program = program session_bytes ≡ session_text
 
--- 'a first byte (12), its range (1), enough bytes for the links (12), each record in turn (11), then the set-up (2)'
+-- 'a first byte (12), its range (1)', the guard (12), 'enough bytes for the links (12), each record in turn (11), then the set-up (2)',
+-- with the guard's range (4)
 pub record RefusesStarts (program : List ℕ → List ℕ) : Type 0 where
   pub no_byte : program [] ≡ codes "desk refused 12\n"
   pub no_links : program (0 ∷ []) ≡ codes "desk refused 1\n"
   pub too_many : program (65 ∷ []) ≡ codes "desk refused 1\n"
-  pub too_few_bytes : program (1 ∷ 0x00 ∷ 0x40 ∷ 0x00 ∷ 0x28 ∷ 0x00 ∷ 0x00 ∷ 0x00 ∷ []) ≡ codes "desk refused 12\n"
-  -- the last bit of a link is set
-  pub bits_set : program (1 ∷ 0x00 ∷ 0x40 ∷ 0x00 ∷ 0x28 ∷ 0x00 ∷ 0x00 ∷ 0x00 ∷ 0x01 ∷ []) ≡ codes "desk refused 11\n"
-  -- a link from node 0 to itself
-  pub same_node : program (1 ∷ 0x00 ∷ 0x00 ∷ 0x00 ∷ 0x28 ∷ 0x00 ∷ 0x00 ∷ 0x00 ∷ 0x00 ∷ []) ≡ codes "desk refused 2\n"
+  -- the guard is missing, or a byte of the link
+  pub no_guard : program (1 ∷ []) ≡ codes "desk refused 12\n"
+  pub too_few_bytes : program (1 ∷ 0 ∷ 0x00 ∷ 0x40 ∷ 0x00 ∷ 0x28 ∷ 0x00 ∷ 0x00 ∷ 0x00 ∷ []) ≡ codes "desk refused 12\n"
+  -- the last bit of a link is set; the guard is too long, which comes behind it
+  pub bits_set : program (1 ∷ 16 ∷ 0x00 ∷ 0x40 ∷ 0x00 ∷ 0x28 ∷ 0x00 ∷ 0x00 ∷ 0x00 ∷ 0x01 ∷ []) ≡ codes "desk refused 11\n"
+  -- the guard is too long, and the link, which comes behind it, from node 0 to itself
+  pub long_guard : program (1 ∷ 16 ∷ 0x00 ∷ 0x00 ∷ 0x00 ∷ 0x28 ∷ 0x00 ∷ 0x00 ∷ 0x00 ∷ 0x00 ∷ []) ≡ codes "desk refused 4\n"
+  -- such a link under the longest guard
+  pub same_node : program (1 ∷ 15 ∷ 0x00 ∷ 0x00 ∷ 0x00 ∷ 0x28 ∷ 0x00 ∷ 0x00 ∷ 0x00 ∷ 0x00 ∷ []) ≡ codes "desk refused 2\n"

@@ -10,11 +10,11 @@ use Rattle.layout.specs.Records.{if_passed, order_read}
 use Rattle.report.specs.declared.Report.TheVariants.{DeskLinks, DeskRefused}
 use Rattle.report.specs.Line.{line}
 use Rattle.rules.specs.Plain.{Plain, empty}
-use Rattle.rules.specs.Calls.{Answer, values, next}
-use Rattle.rules.specs.Tables.{links_ok, tables}
+use Rattle.rules.specs.Calls.{Answer, check, first_refusal, values, next}
+use Rattle.rules.specs.Tables.{guard_check, links_ok, tables}
 use Rattle.rules.specs.Desk.{answer_with}
 use Rattle.rules.specs.Sound.{Obeys}
-use Rattle.opening.specs.Opened.{first_byte, first_size, links_in, bytes_refusal, Told}
+use Rattle.opening.specs.Opened.{first_byte, guard_byte, first_size, links_in, bytes_refusal, Told}
 use Rattle.orders.specs.declared.Answered.{Answered}
 use Rattle.orders.specs.Ordered.{call_of, reported, path_shown, told}
 use Rattle.session.specs.Session.{lines, orders}
@@ -45,19 +45,23 @@ unfoldable pub plain_lines : List Link → Plain → ℕ → List (List ℕ) →
 plain_lines links p place [] = []
 plain_lines links p place (order ∷ orders) = line_at place (plain_told links p (order_read order)) ++ plain_lines links (plain_next links p (order_read order)) (place + 1) orders
 
--- the start: the bytes are checked, then the links
+-- what a set-up is refused with, 0 if it is accepted
+abbrev pub start_refusal : List Link → ℕ → ℕ
+start_refusal links guard = first_refusal (guard_check guard ∷ check bad_link (links_ok links) ∷ [])
+
+-- the start: the bytes are checked, then the guard, then the links
 abbrev pub plain_start : List ℕ → Told
 plain_start bytes =
-    if_passed (eqb (bytes_refusal bytes) 0) (record { refusal = if_passed (links_ok (links_in bytes (first_byte bytes))) 0 bad_link; links = links_in bytes (first_byte bytes) })
+    if_passed (eqb (bytes_refusal bytes) 0) (record { refusal = start_refusal (links_in bytes (first_byte bytes)) (guard_byte bytes); links = links_in bytes (first_byte bytes) })
     (record { refusal = bytes_refusal bytes; links = [] })
 
 -- 'On refusal it writes `desk refused N` and stops. Otherwise `desk links N`, then one line for each order'
-abbrev pub plain_output : Told → List ℕ → List ℕ
-plain_output start bytes = if_passed (eqb start.refusal 0) (line 0 (DeskLinks (length start.links)) [] ++ plain_lines start.links empty 1 (orders bytes)) (line 0 (DeskRefused start.refusal) [])
+abbrev pub plain_output : Told → ℕ → List ℕ → List ℕ
+plain_output start guard bytes = if_passed (eqb start.refusal 0) (line 0 (DeskLinks (length start.links)) [] ++ plain_lines start.links (empty guard) 1 (orders bytes)) (line 0 (DeskRefused start.refusal) [])
 
 -- the whole output
 unfoldable pub plain_session : List ℕ → List ℕ
-plain_session bytes = plain_output (plain_start bytes) (drop (first_size bytes) bytes)
+plain_session bytes = plain_output (plain_start bytes) (guard_byte bytes) (drop (first_size bytes) bytes)
 
 -- a program writes that, whatever it is fed
 abbrev pub FromPlainBook : (List ℕ → List ℕ) → Type 0

@@ -21,8 +21,8 @@ use limits::{links_right, number_ok};
 use path_search::NODES;
 use rebuild::rebuild;
 use units::{
-    BOOKINGS, EVENTS, FREE_FIGURES, Head, MAX_BANDWIDTH, MAX_DURATION, MAX_MINUTE, PATH_LINKS,
-    PLACE, release,
+    BOOKINGS, EVENTS, FREE_FIGURES, Head, MAX_BANDWIDTH, MAX_DURATION, MAX_GUARD, MAX_MINUTE,
+    PATH_LINKS, PLACE, release,
 };
 
 // Whether a booking's path has a link, each begins where the one before ended, and no node is met twice.
@@ -130,6 +130,9 @@ pub fn sound(tables: &LentTables<'_>) -> bool
         links: tables.links,
     };
     if MAX_MINUTE < head.clock.0 {
+        return false;
+    }
+    if MAX_GUARD < head.guard.0 {
         return false;
     }
     if head.links as usize != tables.links.len() {

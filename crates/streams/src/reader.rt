@@ -6,8 +6,8 @@ ghost use Rattle.std.specs.Io.KnownBytes.{Consumes, IsAtEnd};
 ghost use Rattle.layout.specs.Layout.{order_bytes};
 ghost use Rattle.streams.specs.Reading.{cut_short, ComesBehind, TakesStart, kept, block_bytes};
 
-use layout::{FIRST_BYTES, LEAD_BYTES, ORDER_BYTES};
-use opening::records_size;
+use layout::{COUNT_BYTES, FIRST_BYTES, ORDER_BYTES};
+use opening::rest_size;
 use std::io::{self, Read, Stdin};
 
 // A reader, with what its type may know of its reads: whether one of them may have failed, and whether one read alone took it from one
@@ -97,19 +97,19 @@ impl Block {
     }
 }
 
-// Reads the first byte of a session and as many link records as it counts; answers how many bytes came. A count out of range has no
-// records to wait for.
+// Reads the first byte of a session, the guard and as many link records as the first byte counts; answers how many bytes came. Behind
+// a count out of range there is nothing to wait for.
 pub fn read_start<R: Input>(input: &mut R, first: &mut [u8; FIRST_BYTES]) -> io::Result<usize>
     ensures bound { ReadsAtMost result first.new }
     ensures start { IfOk result (λ n. TakesStart (R.remaining input.old) (R.remaining input.new) (take n first.new)) }
     ensures fails { OnErr result (R.failed input.new ≡ true) }
 {
-    if read_full(input, &mut first[..LEAD_BYTES])? == 0 {
+    if read_full(input, &mut first[..COUNT_BYTES])? == 0 {
         return Ok(0);
     }
-    let Some(size) = records_size(first[0]) else {
-        return Ok(LEAD_BYTES);
+    let Some(size) = rest_size(first[0]) else {
+        return Ok(COUNT_BYTES);
     };
-    let came = read_full(input, &mut first[LEAD_BYTES..LEAD_BYTES + size])?;
-    Ok(LEAD_BYTES + came)
+    let came = read_full(input, &mut first[COUNT_BYTES..COUNT_BYTES + size])?;
+    Ok(COUNT_BYTES + came)
 }

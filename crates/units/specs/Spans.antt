@@ -11,13 +11,13 @@ low_at earliest clock = max earliest clock
 abbrev pub low_of : Head → Request → ℕ
 low_of head r = low_at r.earliest.0 head.clock.0
 
--- the minutes for which a booking of that duration holds its links
-abbrev pub held_for : ℕ → ℕ
-held_for duration = duration
+-- the minutes for which a booking of that duration holds its links under a guard
+abbrev pub held_for : ℕ → ℕ → ℕ
+held_for duration guard = duration + guard
 
 -- the same, on a desk of that head
 abbrev pub span_of : Head → ℕ → ℕ
-span_of head duration = held_for duration
+span_of head duration = held_for duration head.guard.0
 
 -- more than any span: two figures of a table together
 abbrev pub most_span : ℕ

@@ -37,8 +37,11 @@ pub const MAX_DURATION: u32 = 525600;
 // The last minute; an open latest start is read as this one.
 pub const MAX_MINUTE: u32 = 1000000000;
 
+// The longest guard, in minutes.
+pub const MAX_GUARD: u32 = 15;
+
 // The last minute for which a free figure may be asked.
-pub const MAX_SHOWN: u32 = MAX_MINUTE + MAX_DURATION;
+pub const MAX_SHOWN: u32 = MAX_MINUTE + MAX_DURATION + MAX_GUARD;
 
 // The most events: the clock, and a start and an end for each booking.
 pub const EVENTS: usize = 2 * BOOKINGS + 1;
@@ -131,13 +134,15 @@ pub struct Request {
     pub latest: Minute,
 }
 
-// The head of a desk: its clock, its number of links and its number of standing bookings.
+// The head of a desk: its clock, its number of links, its number of standing bookings, and its guard: the minutes for which a
+// booking goes on holding its links behind its end.
 #[repr(C)]
 #[derive(Clone, Copy)]
 pub struct Head {
     pub clock: Minute,
     pub links: u32,
     pub bookings: u32,
+    pub guard: Duration,
 }
 
 // Document 01's low, the start of a request's window: the later of its earliest start and the clock.
@@ -151,7 +156,7 @@ pub fn low_minute(head: Head, request: Request) -> Minute
 pub fn span_of(head: Head, duration: Duration) -> u64
     ensures { result ≡ span_of head duration.0 }
 {
-    duration.0 as u64
+    duration.0 as u64 + head.guard.0 as u64
 }
 
 // The end of a span: the first minute after it. Nothing else adds a start and a span.
