@@ -10,7 +10,7 @@ use Rattle.units.specs.declared.Link.{Link}
 use Rattle.units.specs.declared.Head.{Head}
 use Rattle.units.specs.declared.Minute.{Minute}
 use Rattle.units.specs.declared.Request.{Request}
-use Rattle.units.specs.Limits.{most_bookings, most_events, most_hops, place_size}
+use Rattle.units.specs.Limits.{most_bookings, most_events, most_hops, most_guard, place_size}
 use Rattle.units.specs.Lists.{count_from}
 use Rattle.timeline.specs.Insertion.{Room}
 use Rattle.path_search.specs.declared.Path.{Path}
@@ -37,12 +37,12 @@ unfolding tables
 tables_are links p a b c d = λ i. record { head = a i; events = b i; free = c i; book = d i }
 
 -- the head of a plain book, figure by figure
-pub head_is : (links : List Link) (p : Plain) {head : Head} → head.clock.0 ≡ p.clock → head.links ≡ length links → head.bookings ≡ length p.bookings → head ≡ head_of links p
-head_is links p a b c = λ i. record { clock = record { 0 = a i }; links = b i; bookings = c i }
+pub head_is : (links : List Link) (p : Plain) {head : Head} → head.clock.0 ≡ p.clock → head.links ≡ length links → head.bookings ≡ length p.bookings → head.guard.0 ≡ p.guard → head ≡ head_of links p
+head_is links p a b c d = λ i. record { clock = record { 0 = a i }; links = b i; bookings = c i; guard = record { 0 = d i } }
 
--- a head by its figures
-abbrev pub head_with : ℕ → ℕ → ℕ → Head
-head_with clock links bookings = record { clock = record { 0 = clock }; links = links; bookings = bookings }
+-- the head of a desk that was just set up with that guard
+abbrev pub bare_head : List Link → ℕ → Head
+bare_head links guard = record { clock = record { 0 = 0 }; links = length links; bookings = 0; guard = record { 0 = guard } }
 
 -- ---- all anew
 
@@ -64,22 +64,23 @@ module _ {links : List Link} {t : Tables} (right : Sized links t) {p : Plain} (o
 
 module _ {links : List Link} {t : Tables} (right : Sized links t) {book : List ℕ} (is_book : book ≡ replicate (most_bookings * place_size) 0) where
   -- what `rebuild_desk` asks
-  pub bare_asks : CanRebuild links (head_with 0 (length links) 0) book t.events t.free
+  pub bare_asks : (guard : ℕ) → guard ≤ most_guard → CanRebuild links (bare_head links guard) book t.events t.free
   unfolding count_from
-  bare_asks = record {
+  bare_asks guard short = record {
     few_links = right.links_right.1;
     events_sized = right.events_right;
     free_sized = right.free_right;
     book_sized = ap length is_book ∙ length-replicate {A = ℕ} (most_bookings * place_size) 0;
     few_bookings = omega arith;
+    short_guard = short;
     counts_right = λ i h. absurd (omega arith);
     bookings_right = tt;
   }
 
   -- and the tables that it gives
-  pub bare_tables : let head = head_with 0 (length links) 0 in lent head (event_table (held_by head book)) (free_table links (held_by head book)) book ≡ tables links empty
+  pub bare_tables : (guard : ℕ) → let head = bare_head links guard in lent head (event_table (held_by head book)) (free_table links (held_by head book)) book ≡ tables links (empty guard)
   unfolding count_from flatten plain-book.by_number
-  bare_tables = tables_are links empty refl refl refl is_book
+  bare_tables guard = tables_are links (empty guard) refl refl refl is_book
 
 -- ---- one booking more
 
@@ -122,4 +123,4 @@ module _ {links : List Link} {t : Tables} (fine : Fine links t) {number : ℕ} {
       (b ∙ book_entered fine (booked number r start path) short g.room (granted_place number r start path) figures_are)
     where
       one_more : with_count t.head (t.head.bookings + 1) ≡ head_of links (put_in (booked number r start path) (held t))
-      one_more = head_is links (put_in (booked number r start path) (held t)) refl (links_are fine) (omega (arith, held_count t))
+      one_more = head_is links (put_in (booked number r start path) (held t)) refl (links_are fine) (omega (arith, held_count t)) refl

@@ -3,7 +3,7 @@
 #![tactic(auto)]
 
 ghost use Rattle.std.specs.Prelude.{◌≡◌, true, ◌≤◌};
-ghost use Rattle.units.specs.Limits.{last_minute};
+ghost use Rattle.units.specs.Limits.{last_minute, most_guard};
 ghost use Rattle.rules.specs.Plain.{empty};
 ghost use Rattle.rules.specs.Calls.{stands, take_out, move_to, put_in};
 ghost use Rattle.rules.specs.Tables.{held, held_by, event_table, free_table, lent, sized, tables, Fine};
@@ -32,7 +32,8 @@ fn rebuild_desk(desk: &mut Desk<'_>, head: Head)
 
 // The tables of a desk that was just set up with a guard.
 pub fn reset(desk: &mut Desk<'_>, guard: Duration)
-    requires { sized desk.old.links.now (tables_of desk.old) ≡ true }
+    requires sized { sized desk.old.links.now (tables_of desk.old) ≡ true }
+    requires short_guard { guard.0 ≤ most_guard }
     ensures loans { SameLoans desk.old desk.new }
     ensures tables { tables_of desk.new ≡ tables desk.old.links.now (empty guard.0) }
 {

@@ -37,7 +37,7 @@ not_otherwise desk d links t (set_up_with s) k h e = done≢refuse (sym (d.in_fo
 not_otherwise desk d links t (ask a) k h e = form_8 a (desk links t (ask a)).answer k (d.in_form links t (ask a) h) e
 
 all_numbered : (links : List Link) (t : Tables) (c : Call) → Numbered (all_checks bandwidth_desk links t c)
-all_numbered links t (set_up_with s) = (omega arith, (omega arith, tt))
+all_numbered links t (set_up_with s) = (omega arith, (omega arith, (omega arith, (omega arith, tt))))
 all_numbered links t (ask a) = (omega arith, (omega arith, (omega arith, own_numbered links (held t) a)))
 
 -- no desk with demand 1 gives number 0 to a refusal

@@ -1,4 +1,4 @@
--- The desk has document 01's examples.
+-- The desk has the examples of documents 01 and 02.
 use mathlib.Core.Path.{◌≡◌, refl, sym, ◌∙◌, ap, subst}
 use mathlib.Core.Logic.{inl}
 use mathlib.Core.List.{List, [], ◌∷◌}
@@ -10,6 +10,7 @@ use lib.Dec.{lit<, lit≤}
 use lib.ListN.{length}
 use borrow.Author.Tests.{le-leb, eq-eqb}
 use Rattle.units.specs.declared.Request.{Request}
+use Rattle.units.specs.Limits.{most_guard}
 use Rattle.units.specs.Lists.{member, sum, select, All}
 use Rattle.units.specs.Search.{first_from, all_from, any_below}
 use Rattle.path_search.specs.Paths.{reaches, lowest, fewest, route}
@@ -20,7 +21,7 @@ use Rattle.histories.specs.Kinds as kinds
 use Rattle.rules.specs.Desk.{answer, outcome}
 use Rattle.rules.specs.Choosing.{Carries, PathAt}
 use Rattle.rules.specs.Sound.{LinkRight}
-use Rattle.demands.specs.Examples.{start_at, session_links, Entry, Holds, request, only, fill, session, free_figure, free_figure_left, before_low, full_book, same_ends, Examples}
+use Rattle.demands.specs.Examples.{start_at, session_links, Entry, Holds, request, only, fill, session, free_figure, free_figure_left, before_low, full_book, same_ends, guarded, Examples}
 use Rattle.rules.proofs.Checks.{passed_answer, passed_done}
 use Rattle.rules.proofs.Tests.{links_tell, RequestRight, request_right}
 use Rattle.rules.proofs.Choices.{best_right}
@@ -29,7 +30,7 @@ use Rattle.demands.proofs.Replies.{replies, replies_after}
 
 -- an entry, of the plain book
 abbrev Replies : Entry → Type 0
-Replies e = (f : ℕ) → e.least ≤ f → f ≤ e.most → replies (e.links f) empty (e.calls f) ≡ e.answered f
+Replies e = (f : ℕ) → e.least ≤ f → f ≤ e.most → replies (e.links f) (empty e.guard) (e.calls f) ≡ e.answered f
 
 -- the entries without a variable, by computation
 session_replies : Replies session
@@ -43,6 +44,10 @@ before_low_replies f a b = refl
 full_book_replies : Replies full_book
 unfolding fill every_kind.replies kinds.answer checked best select member sum earliest can_start reaches lowest fewest route first_from all_from any_below
 full_book_replies f a b = refl
+
+guarded_replies : Replies guarded
+unfolding every_kind.replies kinds.answer checked best select member sum earliest can_start reaches lowest fewest route first_from all_from any_below
+guarded_replies f a b = refl
 
 same_ends_replies : Replies same_ends
 unfolding every_kind.replies kinds.answer checked
@@ -86,21 +91,21 @@ only_right : (c : ℕ) → 1 ≤ c → c ≤ 1000000 → All LinkRight (only c)
 only_right c a b = (record { from_right = lit≤ tt; to_right = lit≤ tt; ends_differ = omega arith; capacity_right = (a, b) }, tt)
 
 -- the bandwidths asked in the entries pass the checks
-first_passes : (c w : ℕ) → 1 ≤ w → w ≤ 1000000 → checked refuse (own_checks (only c) empty (book 1 (request 0 2 w 1 0 0))) done ≡ done
+first_passes : (c w : ℕ) → 1 ≤ w → w ≤ 1000000 → checked refuse (own_checks (only c) (empty 0) (book 1 (request 0 2 w 1 0 0))) done ≡ done
 unfolding checked member
 first_passes c w a b = rw (le-leb 1 w a, le-leb w 1000000 b) refl
 
 free_figure_replies : Replies free_figure
 unfolding every_kind.replies sum
 free_figure_replies f a b =
-    rw (unfit_refused f 1 (suc f) 1 0 empty (only_right f a (omega arith)) (first_passes f (suc f) (omega arith) (omega arith)) (lit≤ tt) (λ h. let x = h 0 (lit≤ tt) (lit< tt) in omega arith))
-    (rw (fits_booked f 1 f 1 0 empty (only_right f a (omega arith)) (first_passes f f a (omega arith)) (lit≤ tt) (λ k x y. omega arith)) refl)
+    rw (unfit_refused f 1 (suc f) 1 0 (empty 0) (only_right f a (omega arith)) (first_passes f (suc f) (omega arith) (omega arith)) (lit≤ tt) (λ h. let x = h 0 (lit≤ tt) (lit< tt) in omega arith))
+    (rw (fits_booked f 1 f 1 0 (empty 0) (only_right f a (omega arith)) (first_passes f f a (omega arith)) (lit≤ tt) (λ k x y. omega arith)) refl)
 
 -- the plain book after the first booking of the next entry
 abbrev half_sold : ℕ → Plain
-half_sold f = record { clock = 0; bookings = record { number = 2; terms = record { duration = 2; bandwidth = 1000000 - f }; grant = record { start = 0; path = 0 ∷ [] } } ∷ [] }
+half_sold f = record { clock = 0; guard = 0; bookings = record { number = 2; terms = record { duration = 2; bandwidth = 1000000 - f }; grant = record { start = 0; path = 0 ∷ [] } } ∷ [] }
 
-sale_passes : (w : ℕ) → 1 ≤ w → w ≤ 1000000 → checked refuse (own_checks (only 1000000) empty (book 2 (request 0 2 w 2 0 0))) done ≡ done
+sale_passes : (w : ℕ) → 1 ≤ w → w ≤ 1000000 → checked refuse (own_checks (only 1000000) (empty 0) (book 2 (request 0 2 w 2 0 0))) done ≡ done
 unfolding checked member
 sale_passes w a b = rw (le-leb 1 w a, le-leb w 1000000 b) refl
 
@@ -117,27 +122,33 @@ free_figure_left_replies : Replies free_figure_left
 unfolding every_kind.replies sum
 free_figure_left_replies f a b =
     let million = only_right 1000000 (lit≤ tt) (lit≤ tt) in
-    rw (fits_booked 1000000 2 (1000000 - f) 2 0 empty million (sale_passes (1000000 - f) (omega arith) (omega arith)) (lit≤ tt) (λ k x y. omega arith))
+    rw (fits_booked 1000000 2 (1000000 - f) 2 0 (empty 0) million (sale_passes (1000000 - f) (omega arith) (omega arith)) (lit≤ tt) (λ k x y. omega arith))
     (rw (unfit_refused 1000000 1 (suc f) 1 1 (half_sold f) million (next_passes f (suc f) (omega arith) (omega arith)) (lit≤ tt) (λ h. let x = h 1 (lit≤ tt) (lit< tt) in let s = sold_in_1 f 1 (lit≤ tt) (lit< tt) in omega arith))
     (rw (fits_booked 1000000 1 f 1 1 (half_sold f) million (next_passes f f a (omega arith)) (lit≤ tt) (λ k x y. let s = sold_in_1 f k x y in omega arith)) refl))
 
 -- what the plain book replies the desk answers
-holds : (e : Entry) → ((f : ℕ) → e.least ≤ f → f ≤ e.most → All LinkRight (e.links f)) → Replies e → Holds outcome e
-holds e right r f a b t size = replies_after (e.links f) (right f a b) t size (e.calls f) ∙ ap (λ (x : List Answer). done ∷ x) (r f a b)
+holds : (e : Entry) → e.guard ≤ most_guard → ((f : ℕ) → e.least ≤ f → f ≤ e.most → All LinkRight (e.links f)) → Replies e → Holds outcome e
+holds e short right r f a b t size = replies_after (e.links f) e.guard short (right f a b) t size (e.calls f) ∙ ap (λ (x : List Answer). done ∷ x) (r f a b)
 
 session_right : All LinkRight session_links
 session_right = (links_tell session_links).0 refl
 
 pub examples : Examples outcome
 examples = (
-  holds session (λ f a b. session_right) session_replies,
+  holds session (lit≤ tt) (λ f a b. session_right) session_replies,
   (
-    holds free_figure (λ f a b. only_right f a (omega arith)) free_figure_replies,
+    holds free_figure (lit≤ tt) (λ f a b. only_right f a (omega arith)) free_figure_replies,
     (
-      holds free_figure_left (λ f a b. only_right 1000000 (lit≤ tt) (lit≤ tt)) free_figure_left_replies,
+      holds free_figure_left (lit≤ tt) (λ f a b. only_right 1000000 (lit≤ tt) (lit≤ tt)) free_figure_left_replies,
       (
-        holds before_low (λ f a b. only_right 1 (lit≤ tt) (lit≤ tt)) before_low_replies,
-        (holds full_book (λ f a b. only_right 64 (lit≤ tt) (lit≤ tt)) full_book_replies, (holds same_ends (λ f a b. only_right 1 (lit≤ tt) (lit≤ tt)) same_ends_replies, tt)),
+        holds before_low (lit≤ tt) (λ f a b. only_right 1 (lit≤ tt) (lit≤ tt)) before_low_replies,
+        (
+          holds full_book (lit≤ tt) (λ f a b. only_right 64 (lit≤ tt) (lit≤ tt)) full_book_replies,
+          (
+            holds same_ends (lit≤ tt) (λ f a b. only_right 1 (lit≤ tt) (lit≤ tt)) same_ends_replies,
+            (holds guarded (lit≤ tt) (λ f a b. only_right 4 (lit≤ tt) (lit≤ tt)) guarded_replies, tt),
+          ),
+        ),
       ),
     ),
   ),

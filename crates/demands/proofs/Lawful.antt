@@ -1,5 +1,5 @@
 -- The bandwidth desk is lawful: what `histories` asks of a kind, of this one.
-use mathlib.Core.Path.{◌≡◌, refl, sym, ap, ◌∙◌}
+use mathlib.Core.Path.{◌≡◌, refl, sym, ap, ap₂, ◌∙◌}
 use mathlib.Core.HLevel.{hedberg}
 use mathlib.Core.Logic.{inl, inr, ∥∥₁_elim}
 use mathlib.Core.List.{List, Permᴰ}
@@ -58,10 +58,10 @@ tables_set = hedberg decide
 
 -- plain books that agree have the same tables
 same_tables : (links : List Link) (p q : Plain) → Obeys links p → Agree p q → tables links p ≡ tables links q
-same_tables links p q o a = ∥∥₁_elim a.1 (tables_set (tables links p) (tables links q)) from_order
+same_tables links p q o a = ∥∥₁_elim a.2 (tables_set (tables links p) (tables links q)) from_order
   where
     from_order : Permᴰ p.bookings q.bookings → tables links p ≡ tables links q
-    from_order s = tables_permuted links p s o.numbers_differ ∙ ap (λ c. tables links (record { clock = c; bookings = q.bookings })) a.0
+    from_order s = tables_permuted links p s o.numbers_differ ∙ ap₂ (λ c g. tables links (record { clock = c; guard = g; bookings = q.bookings })) a.0 a.1
 
 -- the figure that the tables of a plain book keep is what is free
 kept_free : (links : List Link) (p : Plain) → length links ≤ most_links → (l m : ℕ) → l < length links → p.clock ≤ m → kept (tables links p).events (tables links p).free l m ≡ free links p l m
@@ -78,7 +78,7 @@ lawful = record {
   in_form = in_form;
   Started = λ links. Within 1 most_links (length links);
   Obeys = Obeys;
-  set_up_starts = λ links t s e. let h = set_up_passed links t e in (h.0, obeys_empty links h.1, set_up_leaves links t e);
+  set_up_starts = λ links t s e. let h = set_up_passed links t s e in (h.0, obeys_empty links s h.1 h.2, set_up_leaves links t s e);
   answers_plain = λ links p c count o. answers_plain links p o count c;
   leaves_plain = λ links p c count o. leaves_plain links p o count c;
   stays_obeyed = λ links p c count o. stays_obeyed links p o c;

@@ -6,6 +6,7 @@ use mathlib.Core.Bool.{Bool, true, false≢true}
 use Prim.Native.Nat.{ℕ, suc, ◌≤◌}
 use native.Mathlib.Nat.{le_trans}
 use native.Mathlib.Omega.{arith}
+use lib.Dec.{lit≤}
 use Rattle.units.specs.declared.Link.{Link}
 use Rattle.units.specs.declared.Request.{Request}
 use Rattle.units.specs.Limits.{list_size}
@@ -144,7 +145,7 @@ calls =
     ∷ list list_size (request 0 2 1 2 6 5)
     ∷ []
 
-pub example : (t : Tables) → sized (only 1) t ≡ true → answers outcome (only 1) t (set_up ∷ map ask calls)
+pub example : (t : Tables) → sized (only 1) t ≡ true → answers outcome (only 1) t (set_up 0 ∷ map ask calls)
     ≡ done ∷ start_at 3 (0 ∷ []) ∷ lists (record { first = 0; last = 1 } ∷ record { first = 5; last = 6 } ∷ []) ∷ lists [] ∷ refuse 13 ∷ refuse 4 ∷ refuse 5 ∷ []
 unfolding every_kind.replies kinds.answer checked best every ranges ranges_from select member sum earliest can_start reaches lowest fewest route first_from all_from any_below
-example t size = replies_after (only 1) ((links_tell (only 1)).0 refl) t size calls
+example t size = replies_after (only 1) 0 (lit≤ tt) ((links_tell (only 1)).0 refl) t size calls

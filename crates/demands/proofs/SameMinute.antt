@@ -38,5 +38,5 @@ same_minute links t f =
     let c = ask (move_clock p.clock) in (
       ap (λ x. (outcome links x c).answer) is ∙ answers_plain links p o count c ∙ said links p o,
       ap (λ x. (outcome links x c).tables) is ∙ leaves_plain links p o count c ∙ ap (λ a. tables links (next p c a)) (said links p o)
-          ∙ ap (λ bs. tables links (record { clock = p.clock; bookings = bs })) (still links p p.bookings o.bookings_right) ∙ sym is,
+          ∙ ap (λ bs. tables links (record { clock = p.clock; guard = p.guard; bookings = bs })) (still links p p.bookings o.bookings_right) ∙ sym is,
     )

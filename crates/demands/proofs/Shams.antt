@@ -94,7 +94,7 @@ splits proper t a = says (split_listing proper.answer) proper.tables
 -- 7. answers an offer that comes right after a cancellation as f makes of the proper answer. Of the cancellation it makes a note in
 -- the head, one link more than there are, and rubs it out before it looks at the tables again
 abbrev with_count : ℕ → Tables → Tables
-with_count n t = record { head = record { clock = t.head.clock; links = n; bookings = t.head.bookings }; events = t.events; free = t.free; book = t.book }
+with_count n t = record { head = record { clock = t.head.clock; links = n; bookings = t.head.bookings; guard = t.head.guard }; events = t.events; free = t.free; book = t.book }
 
 abbrev noted : Outcome → Outcome
 noted o = on_done o.answer (says done (with_count (suc o.tables.head.links) o.tables)) o
@@ -114,7 +114,7 @@ abbrev no_longer : Answer → Answer
 no_longer a = refuse 8
 
 abbrev fresh : Tables
-fresh = tables session_links empty
+fresh = tables session_links (empty 0)
 
 -- the first two orders of the session
 abbrev first : Request
@@ -134,13 +134,13 @@ not_says_8 d = (d.offering session_links fresh first first_passes).no_start_iff.
 pub not_always_0 : ¬ Demand2 (desk_of always_0)
 not_always_0 d = let link_0_leads_to_2 : ◌≡◌ {A = ℕ} 1 2 = (((d.offering session_links fresh first first_passes).start_iff (record { start = 0; path = 0 ∷ [] })).0 refl).works.0.2 in omega arith
 
-set_up_done : (outcome session_links fresh set_up).answer ≡ done
+set_up_done : (outcome session_links fresh (set_up 0)).answer ≡ done
 unfolding kinds.outcome kinds.answer_on checked tables later flatten count_from bookings.by_number
 set_up_done = refl
 
 -- the session's desk after a set-up and these calls
 abbrev after : (sham : Sham) → List Call → Moment bandwidth_desk (desk_of sham) session_links
-after sham calls = record { before = fresh; start = tt; accepted = set_up_done; calls = calls }
+after sham calls = record { before = fresh; start = 0; accepted = set_up_done; calls = calls }
 
 pub not_writes_nothing : ¬ Demand3 (desk_of writes_nothing)
 unfolding now plain left counted kinds.outcome kinds.answer_on kinds.answer checked best member sum earliest can_start route fewest lowest reaches first_from all_from any_below row_at passed sound sound_with tables later insert_rising flatten count_from bookings.by_number bookings.insert_by_number goes_on rising equal
@@ -187,7 +187,7 @@ not_splits d =
 
 -- the first order stands; the second is offered, the first cancelled, and the second offered again
 abbrev first_stands : Tables
-first_stands = tables session_links (put_in (record { number = 7; terms = terms first; grant = record { start = 0; path = 2 ∷ [] } }) empty)
+first_stands = tables session_links (put_in (record { number = 7; terms = terms first; grant = record { start = 0; path = 2 ∷ [] } }) (empty 0))
 
 offered_again : (f : Answer → Answer) → answers (after_cancelling f) session_links first_stands (ask (offer second) ∷ ask (cancel 7) ∷ ask (offer second) ∷ [])
     ≡ start_at 0 (0 ∷ 1 ∷ []) ∷ done ∷ f (start_at 0 (0 ∷ 1 ∷ [])) ∷ []
@@ -218,13 +218,13 @@ abbrev deaf : Desk
 deaf links t (set_up_with s) = unheard (sized links t && sound links t) t (outcome links t (set_up_with s))
 deaf links t (ask a) = outcome links t (ask a)
 
-set_up_passes : Passes session_links fresh set_up
+set_up_passes : Passes session_links fresh (set_up 0)
 unfolding checked tables later flatten count_from bookings.by_number
 set_up_passes = refl
 
 pub not_deaf : ¬ Demand1 deaf
 unfolding sound sound_with tables later flatten count_from bookings.by_number rising equal sum all_from
-not_deaf d = shows≢done (d.in_form session_links fresh set_up set_up_passes)
+not_deaf d = shows≢done (d.in_form session_links fresh (set_up 0) set_up_passes)
 
 -- 9. answers every set-up so, and writes nothing
 abbrev mute : Desk
@@ -233,7 +233,7 @@ mute links t (ask a) = outcome links t (ask a)
 
 pub not_mute : ¬ Demand1 mute
 unfolding kinds.outcome kinds.answer_on checked tables later flatten count_from bookings.by_number
-not_mute d = shows≢done (d.in_form session_links fresh set_up set_up_passes)
+not_mute d = shows≢done (d.in_form session_links fresh (set_up 0) set_up_passes)
 
 -- 10. answers every cancellation so
 abbrev mute_cancelling : Sham

@@ -6,8 +6,9 @@ use Prim.Native.Nat.{ℕ, ◌≤◌, ◌<◌}
 use native.Mathlib.Decide.{ℕ_discrete}
 use lib.ListN.{length}
 use Rattle.units.specs.declared.Link.{Link}
-use Rattle.units.specs.Limits.{most_links}
+use Rattle.units.specs.Limits.{most_links, most_guard}
 use Rattle.units.specs.Lists.{Within}
+use Rattle.units.proofs.Tests.{at_most}
 use Rattle.rules.specs.Plain.{Plain, empty, taken, capacity}
 use Rattle.rules.specs.Calls.{Call, set_up, set_up_with, ask, refuse, values, first_refusal, next}
 use Rattle.histories.specs.Kinds as kinds
@@ -44,10 +45,11 @@ module _ (links : List Link) where
       subst (Fine links) (sym (ap (λ x. (outcome links x c).tables) (sound_tables links t f.is_sound) ∙ leaves_plain links p o count c)) (fine (next p c (answer_with links p c)) (stays_obeyed links p o c) count)
 
   passed_sound : (t : Tables) (c : Call) → Passed (table_checks links t c) → Fine links (outcome links t c).tables
-  passed_sound t (set_up_with s) ok =
-      let right = (links_tell links).0 ok.1.0 in
-      let accepted = set_up_accepted links t ok.0 right in
-      subst (Fine links) (sym (set_up_leaves links t accepted)) (fine empty (obeys_empty links right) (set_up_passed links t accepted).0)
+  passed_sound t (set_up_with guard) ok =
+      let short = (at_most guard most_guard).0 ok.1.0 in
+      let right = (links_tell links).0 ok.1.1.0 in
+      let accepted = set_up_accepted links t guard short ok.0 right in
+      subst (Fine links) (sym (set_up_leaves links t guard accepted)) (fine (empty guard) (obeys_empty links guard short right) (set_up_passed links t guard accepted).0)
   passed_sound t (ask a) ok = stays_sound t (ask a) (record { is_sized = ok.0; is_sound = ok.1.1.0 })
 
   -- every accepted call leaves sound tables, whatever it was lent
@@ -56,8 +58,10 @@ module _ (links : List Link) where
   accepted_sound t c accepted = passed_sound t c (passed_all refuse (table_checks links t c) (answer_with links (held t) c) accepted)
 
   -- a set-up that is answered 0 leaves sound tables
-  pub set_up_sound : (t : Tables) → (values (outcome links t set_up).answer).number ≡ 0 → Fine links (outcome links t set_up).tables
-  set_up_sound t e = passed_sound t set_up (exits.set_up_passed links t none)
+  pub set_up_sound : (t : Tables) (guard : ℕ) → (values (outcome links t (set_up guard)).answer).number ≡ 0 → Fine links (outcome links t (set_up guard)).tables
+  set_up_sound t guard e = passed_sound t (set_up guard) (exits.set_up_passed links t guard none)
     where
-      none : first_refusal (table_checks links t set_up) ≡ 0
-      none = elim (ℕ_discrete (first_refusal (table_checks links t set_up)) 0) [ yes q ↦ q | no d ↦ sym (ap (λ o. (values o.answer).number) (exits.set_up_stopped links t _ refl d)) ∙ e ]
+      none : first_refusal (table_checks links t (set_up guard)) ≡ 0
+      none =
+          elim (ℕ_discrete (first_refusal (table_checks links t (set_up guard))) 0)
+          [ yes q ↦ q | no d ↦ sym (ap (λ o. (values o.answer).number) (exits.set_up_stopped links t guard _ refl d)) ∙ e ]

@@ -1,4 +1,5 @@
--- The examples of document 01 that are marked P, as one list of entries with a single claim over the list, of any desk.
+-- The examples of document 01 that are marked P, and document 02's of a guard, as one list of entries with a single claim over the
+-- list, of any desk.
 use Rattle.std.specs.Prelude.{◌≡◌, List, [], ◌∷◌, ◌++◌, map, true, ℕ, zero, suc, ◌-◌, ◌≤◌, replicate}
 use Rattle.units.specs.declared.Link.{Link}
 use Rattle.units.specs.declared.Request.{Request}
@@ -18,8 +19,9 @@ session_links =
     ∷ record { from = 0; to = 2; capacity = record { 0 = 4 } }
     ∷ []
 
--- calls on a desk that was just set up, and what they are answered; each for every number f from `least` to `most`
+-- calls on a desk that was just set up with a guard, and what they are answered; each for every number f from `least` to `most`
 pub record Entry : Type 0 where
+  pub guard : ℕ
   pub least : ℕ
   pub most : ℕ
   pub links : ℕ → List Link
@@ -30,7 +32,7 @@ pub record Entry : Type 0 where
 abbrev pub Holds : Desk → Entry → Type 0
 Holds desk e =
     (f : ℕ) → e.least ≤ f → f ≤ e.most → (t : Tables) → sized (e.links f) t ≡ true
-    → answers desk (e.links f) t (set_up ∷ map ask (e.calls f)) ≡ done ∷ e.answered f
+    → answers desk (e.links f) t (set_up e.guard ∷ map ask (e.calls f)) ≡ done ∷ e.answered f
 
 abbrev pub request : ℕ → ℕ → ℕ → ℕ → ℕ → ℕ → Request
 request s d w t e l = record { from = s; to = d; bandwidth = record { 0 = w }; duration = record { 0 = t }; earliest = record { 0 = e }; latest = record { 0 = l } }
@@ -46,6 +48,7 @@ fill (suc n) = book (suc n) (request 0 2 1 1 0 0) ∷ fill n
 
 abbrev pub session : Entry
 session = record {
+  guard = 0;
   least = 0;
   most = 0;
   links = λ f. session_links;
@@ -57,6 +60,7 @@ session = record {
 -- low is the only start and one link the only path: one more than the free figure is refused, the free figure accepted
 abbrev pub free_figure : Entry
 free_figure = record {
+  guard = 0;
   least = 1;
   most = 999999;
   links = λ f. only f;
@@ -67,6 +71,7 @@ free_figure = record {
 -- the same where a booking has left that figure of 1,000,000
 abbrev pub free_figure_left : Entry
 free_figure_left = record {
+  guard = 0;
   least = 1;
   most = 999999;
   links = λ f. only 1000000;
@@ -76,6 +81,7 @@ free_figure_left = record {
 
 abbrev pub before_low : Entry
 before_low = record {
+  guard = 0;
   least = 0;
   most = 0;
   links = λ f. only 1;
@@ -86,6 +92,7 @@ before_low = record {
 -- each of the 64 standing numbers; with a 65th number it is 7
 abbrev pub full_book : Entry
 full_book = record {
+  guard = 0;
   least = 0;
   most = 0;
   links = λ f. only 64;
@@ -95,6 +102,7 @@ full_book = record {
 
 abbrev pub same_ends : Entry
 same_ends = record {
+  guard = 0;
   least = 0;
   most = 31;
   links = λ f. only 1;
@@ -102,8 +110,19 @@ same_ends = record {
   answered = λ f. refuse 4 ∷ refuse 4 ∷ [];
 }
 
+-- document 02's 'sold full for minutes 0 to 9 under guard 2 starts its next booking at 12'
+abbrev pub guarded : Entry
+guarded = record {
+  guard = 2;
+  least = 0;
+  most = 0;
+  links = λ f. only 4;
+  calls = λ f. book 1 (request 0 2 4 10 0 0) ∷ book 2 (request 0 2 1 1 0 1000000000) ∷ [];
+  answered = λ f. start_at 0 (0 ∷ []) ∷ start_at 12 (0 ∷ []) ∷ [];
+}
+
 abbrev pub entries : List Entry
-entries = session ∷ free_figure ∷ free_figure_left ∷ before_low ∷ full_book ∷ same_ends ∷ []
+entries = session ∷ free_figure ∷ free_figure_left ∷ before_low ∷ full_book ∷ same_ends ∷ guarded ∷ []
 
 -- the single claim
 abbrev pub Examples : Desk → Type 0

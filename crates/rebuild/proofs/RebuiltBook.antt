@@ -47,6 +47,7 @@ module _ (links : List Link) (p : Plain) (o : Obeys links p) where
     free_sized = b;
     book_sized = ((sized_tells links (tables links p)).0 (tables_sized links p o count)).book_right;
     few_bookings = o.not_too_many;
+    short_guard = o.guard_right;
     counts_right = counts_right;
     bookings_right = subst (λ q. All (BookingRight links q) q.bookings) (sym held_is) (obeys_ordered links p o).bookings_right;
   }

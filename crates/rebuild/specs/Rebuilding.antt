@@ -1,6 +1,6 @@
 -- What rebuilding gives: the events and free figures of a clock and the first places of a book, booking by booking.
 use Rattle.std.specs.Prelude.{◌≡◌, List, [], ◌∷◌, Bool, ℕ, ◌*◌, ◌≤◌, ◌<◌, length, take, get_or}
-use Rattle.units.specs.Limits.{most_links, most_hops, most_bookings, most_events, place_size, last_minute, longest}
+use Rattle.units.specs.Limits.{most_links, most_hops, most_bookings, most_events, place_size, last_minute, longest, most_guard}
 use Rattle.units.specs.Lists.{all, All, Within, padded}
 use Rattle.units.specs.Spans.{span_of, release}
 use Rattle.units.specs.declared.Head.{Head}
@@ -37,13 +37,14 @@ pub record PlaceRight (b : Place) : Type 0 where
   pub count_right : b.count ≤ most_hops
   pub links_right : (i : ℕ) → i < length (place_path b) → get_or (place_path b) i 0 < most_links
 
--- tables of so many rows, and a book whose places, as many as the head counts, hold right bookings
+-- tables of so many rows, a guard in range, and a book whose places, as many as the head counts, hold right bookings
 pub record CanRebuildIn (rows : ℕ) (links : List Link) (head : Head) (book es t : List ℕ) : Type 0 where
   pub few_links : length links ≤ most_links
   pub events_sized : length es ≡ rows
   pub free_sized : length t ≡ rows * most_links
   pub book_sized : length book ≡ most_bookings * place_size
   pub few_bookings : head.bookings ≤ most_bookings
+  pub short_guard : head.guard.0 ≤ most_guard
   pub counts_right : (i : ℕ) → i < head.bookings → (booking_in book i).count ≤ most_hops
   pub bookings_right : All (BookingRight links (held_by head book)) (held_by head book).bookings
 

@@ -3,7 +3,7 @@
 #![tactic(auto)]
 
 ghost use Rattle.std.specs.Prelude.{◌≡◌, true, ◌↔◌, ◌+◌, ◌*◌, ◌≤◌, length};
-ghost use Rattle.units.specs.Limits.{most_links};
+ghost use Rattle.units.specs.Limits.{most_links, most_guard};
 ghost use Rattle.timeline.specs.Insertion.{with_span, with_span_rows, Room};
 ghost use Rattle.rules.specs.Tables.{held_by, event_table, free_table};
 ghost use Rattle.rules.specs.Desk.{NotOversold};
@@ -44,7 +44,8 @@ fn take_path(events: &[u32], free: &mut [u32], b: RightBooking, minutes: Interva
 // Adds a booking to the events and the free figures: its two events, then its bandwidth taken. Answers whether every
 // link of its path had the bandwidth free.
 pub fn add_booking(head: Head, events: &mut [u32], free: &mut [u32], b: RightBooking) -> bool
-    requires { Room events.old free.old 2 }
+    requires room { Room events.old free.old 2 }
+    requires short_guard { head.guard.0 ≤ most_guard }
     ensures { let start = b.booking.start.0 in let end = release_of head b.booking in let opened = with_span start end events.old in let rows = with_span_rows most_links events.old start end free.old in
         (events.new ≡ opened)
         × (free.new ≡ less_path opened start end b.booking.bandwidth.0 (place_path b.booking) rows)

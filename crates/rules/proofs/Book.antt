@@ -84,7 +84,7 @@ all_again (b ∷ bs) a = ap₂ ◌∷◌ (booking_again b a.0) (all_again bs a.1
 -- what the tables of a plain book hold is that book by rising number
 pub held_tables : (links : List Link) (p : Plain) → All Short p.bookings → held (tables links p) ≡ with_book p (by_number p.bookings)
 unfolding tables
-held_tables links p a = λ j. record { clock = p.clock; bookings = read j }
+held_tables links p a = λ j. record { clock = p.clock; guard = p.guard; bookings = read j }
   where
     cs : List Booking
     cs = by_number p.bookings

@@ -1,6 +1,6 @@
 -- The ways out of a call: what its outcome is where a check is not passed, and where all are.
 use mathlib.Core.Path.{◌≡◌, ◌∙◌, ap}
-use mathlib.Core.List.{List}
+use mathlib.Core.List.{List, [], ◌∷◌}
 use mathlib.Core.Bool.{true, false}
 use Prim.Native.Nat.{ℕ, ◌≤◌}
 use native.Mathlib.Omega.{arith}
@@ -10,8 +10,8 @@ use Rattle.histories.proofs.Checks.{Passed, Numbered, passed_number, stopped_num
 use Rattle.histories.proofs.Exits.{outcome_of, left_refused}
 use Rattle.rules.specs.Plain.{Plain}
 use Rattle.rules.specs.Calls.{Ask, book, offer, list, cancel, move_clock, show, Call, set_up, set_up_with, ask, Answer, done, refuse, checked, first_refusal, own_checks, result, list_fits}
-use Rattle.rules.specs.Tables.{Tables, sized, sound, held, table_checks}
-use Rattle.rules.specs.Desk.{Outcome, bandwidth_desk, answer_on, left_by, outcome}
+use Rattle.rules.specs.Tables.{Tables, sized, sound, held, guard_check, table_checks}
+use Rattle.rules.specs.Desk.{Outcome, bandwidth_desk, answer_with, answer_on, left_by, outcome}
 
 -- a refusal, with the tables as they came
 abbrev pub refused_with : ℕ → Tables → Outcome
@@ -32,20 +32,25 @@ module _ (links : List Link) (t : Tables) where
 
   pub unsized : (c : Call) → sized links t ≡ false → outcome links t c ≡ refused_with 1 t
   unfolding kinds.answer_on checked
-  unsized (set_up_with s) e = refused_outcome set_up 1 (omega arith) (rw e)
+  unsized (set_up_with guard) e = refused_outcome (set_up guard) 1 (omega arith) (rw e)
   unsized (ask a) e = refused_outcome (ask a) 1 (omega arith) (rw e)
 
   -- a set-up, by the number that the code computes
-  pub set_up_stopped : (k : ℕ) → first_refusal (table_checks links t set_up) ≡ k → (k ≡ 0 → ⊥) → outcome links t set_up ≡ refused_with k t
-  unfolding kinds.answer_on checked
-  set_up_stopped k q ne = refused_outcome set_up k (omega (arith, ne)) (stopped_number refuse (table_checks links t set_up) done k q ne)
+  module _ (guard : ℕ) where
+    pub set_up_stopped : (k : ℕ) → first_refusal (table_checks links t (set_up guard)) ≡ k → (k ≡ 0 → ⊥) → outcome links t (set_up guard) ≡ refused_with k t
+    unfolding kinds.answer_on
+    set_up_stopped k q ne = refused_outcome (set_up guard) k (omega (arith, ne)) (stopped_number refuse (table_checks links t (set_up guard)) (answer_with links (held t) (set_up guard)) k q ne)
 
-  pub set_up_passed : first_refusal (table_checks links t set_up) ≡ 0 → Passed (table_checks links t set_up)
-  set_up_passed = passed_number (table_checks links t set_up) (omega arith, (omega arith, tt))
+    pub set_up_passed : first_refusal (table_checks links t (set_up guard)) ≡ 0 → Passed (table_checks links t (set_up guard))
+    set_up_passed = passed_number (table_checks links t (set_up guard)) (omega arith, (omega arith, (omega arith, tt)))
 
-  pub set_up_done : first_refusal (table_checks links t set_up) ≡ 0 → outcome links t set_up ≡ record { answer = done; tables = left_by links t set_up done }
-  unfolding kinds.answer_on checked
-  set_up_done q = outcome_of bandwidth_desk links t set_up done (passed_answer refuse (table_checks links t set_up) done (set_up_passed q))
+    -- the guard is checked among the tables, and once more so that links and plain book alone give the answer
+    pub set_up_answer : Passed (table_checks links t (set_up guard)) → answer_on links t (set_up guard) ≡ done
+    unfolding kinds.answer_on
+    set_up_answer ok = passed_answer refuse (table_checks links t (set_up guard)) (answer_with links (held t) (set_up guard)) ok ∙ passed_answer refuse (guard_check guard ∷ []) done (ok.1.0, tt)
+
+    pub set_up_done : first_refusal (table_checks links t (set_up guard)) ≡ 0 → outcome links t (set_up guard) ≡ record { answer = done; tables = left_by links t (set_up guard) done }
+    set_up_done q = outcome_of bandwidth_desk links t (set_up guard) done (set_up_answer (set_up_passed q))
 
   pub list_unfit : (a : Ask) → sized links t ≡ true → list_fits a ≡ false → outcome links t (ask a) ≡ refused_with 13 t
   unfolding kinds.answer_on checked

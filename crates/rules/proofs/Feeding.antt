@@ -1,6 +1,9 @@
 -- The plain book is fed as document 01 says.
 use mathlib.Core.Path.{◌≡◌, refl}
-use Prim.Native.Nat.{ℕ}
+use Prim.Native.Nat.{ℕ, ◌+◌}
+use native.Mathlib.Omega.{arith}
+use lib.Dec.{ltb}
+use Rattle.units.specs.Lists.{select}
 use Rattle.rules.specs.Plain.{Plain}
 use Rattle.rules.specs.Calls.{Ask, book, offer, list, cancel, move_clock, show, Call, set_up_with, ask, Answer, done, starts, lists, shows, refused, refuse, next}
 use Rattle.rules.specs.Feeding.{RightlyFed}
@@ -34,6 +37,9 @@ guard_kept p (move_clock m) (shows x) = refl
 guard_kept p (move_clock m) (refused k) = refl
 guard_kept p (show l m) answer = refl
 
+end_and_guard : (start duration guard : ℕ) → start + (duration + guard) ≡ start + duration + guard
+end_and_guard start duration guard = omega arith
+
 pub rightly_fed : RightlyFed
 rightly_fed = record {
   set_up_empties = λ p guard. (refl, refl);
@@ -41,7 +47,7 @@ rightly_fed = record {
   guard_stays = guard_kept;
   booking_adds = λ p n r g. (refl, refl);
   clock_set = λ p m. refl;
-  ended_dropped = λ p m. refl;
+  ended_dropped = λ p m i. select (λ b. ltb m (end_and_guard b.grant.start b.terms.duration p.guard i)) p.bookings;
   offer_keeps = λ p r a. refl;
   listing_keeps = λ p n r a. refl;
   showing_keeps = λ p l m a. refl;

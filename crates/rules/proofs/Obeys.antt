@@ -7,7 +7,7 @@ use Prim.Native.Nat.{ℕ, ◌-◌, ◌*◌, ◌≤◌, ◌<◌}
 use native.Mathlib.Omega.{arith}
 use lib.ListN.{length, length-map}
 use Rattle.units.specs.declared.Link.{Link}
-use Rattle.units.specs.Limits.{most_links, most_bookings, most_events, place_size, last_minute}
+use Rattle.units.specs.Limits.{most_links, most_bookings, most_events, place_size, last_minute, most_guard}
 use Rattle.units.specs.Lists.{Within, count_from, padded, All, Distinct}
 use Rattle.units.proofs.Tests.{Tells, ◌&◌, at_most, all_tells, Rising, rising_tells, Side, below, above, side}
 use Rattle.units.proofs.Permuted.{length_permuted, all_permuted, flatten_permuted, distinct_permuted}
@@ -48,7 +48,7 @@ module _ (links : List Link) (p : Plain) {bs cs : List Booking} (q : Permᴰ bs 
   pub tables_permuted : Distinct (numbers bs) → tables links (with_book p bs) ≡ tables links (with_book p cs)
   unfolding tables
   tables_permuted d = λ i. record {
-    head = record { clock = record { 0 = p.clock }; links = length links; bookings = length_permuted q i };
+    head = record { clock = record { 0 = p.clock }; links = length links; bookings = length_permuted q i; guard = record { 0 = p.guard } };
     events = padded most_events (events_permuted i);
     free = table most_events (length links) (free_permuted i) (events_permuted i);
     book = padded (most_bookings * place_size) (flatten (map place (by_number_permuted q d i)));
@@ -58,6 +58,7 @@ module _ (links : List Link) (p : Plain) {bs cs : List Booking} (q : Permᴰ bs 
   obeys_permuted o = record {
     links_right = o.links_right;
     clock_right = o.clock_right;
+    guard_right = o.guard_right;
     not_too_many = rw (← (length_permuted q)) o.not_too_many;
     numbers_differ = distinct_permuted (Permᴰ.map (λ b. b.number) q) o.numbers_differ;
     bookings_right = all_map (BookingRight links (with_book p bs)) (BookingRight links (with_book p cs)) (λ b r. right_in links (with_book p bs) (with_book p cs) b r.still_stands r) cs
@@ -71,6 +72,7 @@ module _ (links : List Link) (p : Plain) {bs cs : List Booking} (q : Permᴰ bs 
 pub record SoundWith (links : List Link) (t : Tables) (p : Plain) : Type 0 where
   pub links_right : All LinkRight links
   pub clock_right : p.clock ≤ last_minute
+  pub guard_right : p.guard ≤ most_guard
   pub count_right : t.head.bookings ≤ most_bookings
   pub in_order : Rising 0 (numbers p.bookings)
   pub bookings_right : All (BookingRight links p) p.bookings
@@ -80,20 +82,21 @@ pub record SoundWith (links : List Link) (t : Tables) (p : Plain) : Type 0 where
 pub sound_with_tells : (links : List Link) (t : Tables) (p : Plain) → Tells (sound_with links t p) (SoundWith links t p)
 unfolding sound_with
 sound_with_tells links t p =
-    let b = links_tell links & at_most p.clock last_minute & at_most t.head.bookings most_bookings & rising_tells 0 (numbers p.bookings)
+    let b = links_tell links & at_most p.clock last_minute & at_most p.guard most_guard & at_most t.head.bookings most_bookings & rising_tells 0 (numbers p.bookings)
     & all_tells (booking_ok links p) (BookingRight links p) (booking_tells links p) p.bookings
     & all_tells (none_oversold links p) (λ m. (l : ℕ) → l < length links → taken p l m ≤ capacity links l) (none_oversold_tells links p) (events_of p)
     & same_tells t (tables links p) in (
       (λ e. let h = b.0 e in record {
-        links_right = h.0.0.0.0.0.0;
-        clock_right = h.0.0.0.0.0.1;
+        links_right = h.0.0.0.0.0.0.0;
+        clock_right = h.0.0.0.0.0.0.1;
+        guard_right = h.0.0.0.0.0.1;
         count_right = h.0.0.0.0.1;
         in_order = h.0.0.0.1;
         bookings_right = h.0.0.1;
         not_oversold = h.0.1;
         tables_are = h.1;
       }),
-      λ s. b.1 ((((((s.links_right, s.clock_right), s.count_right), s.in_order), s.bookings_right), s.not_oversold), s.tables_are),
+      λ s. b.1 (((((((s.links_right, s.clock_right), s.guard_right), s.count_right), s.in_order), s.bookings_right), s.not_oversold), s.tables_are),
     )
 
 pub sound_facts : (links : List Link) (t : Tables) → sound links t ≡ true → SoundWith links t (held t)
@@ -128,6 +131,7 @@ sound_obeys links t e =
     record {
       links_right = s.links_right;
       clock_right = s.clock_right;
+      guard_right = s.guard_right;
       not_too_many = rw held_count s.count_right;
       numbers_differ = rising_distinct 0 (numbers (held t).bookings) s.in_order;
       bookings_right = s.bookings_right;
@@ -164,6 +168,7 @@ module _ (links : List Link) (p : Plain) (o : Obeys links p) where
   tables_sound = sound_test links (tables links p) (subst (SoundWith links (tables links p)) (sym held_ordered) (record {
     links_right = o.links_right;
     clock_right = o.clock_right;
+    guard_right = o.guard_right;
     count_right = count_is;
     in_order = by_number_rises p.bookings o.numbers_differ (all_map (BookingRight links p) (λ b. 1 ≤ b.number) (λ b r. r.number_right.0) p.bookings o.bookings_right);
     bookings_right = obeys_ordered.bookings_right;

@@ -11,10 +11,10 @@ use lib.ListN.{length}
 use borrow.Author.Tests.{leb-true, ltb-true, not-true}
 use Rattle.units.specs.declared.Link.{Link}
 use Rattle.units.specs.declared.Request.{Request}
-use Rattle.units.specs.Limits.{most_links, most_bookings, last_minute, last_number, list_size}
+use Rattle.units.specs.Limits.{most_links, most_bookings, last_minute, last_number, most_guard, list_size}
 use Rattle.units.specs.Lists.{Within, member, sum, All}
 use Rattle.units.specs.Refusals as refusals
-use Rattle.units.proofs.Tests.{member_tells, absent, in_range}
+use Rattle.units.proofs.Tests.{member_tells, absent, in_range, at_most}
 use Rattle.units.proofs.Permuted.{length_permuted, member_permuted, select_permuted}
 use Rattle.units.proofs.Parts.{select_part, length_part, map_part, distinct_part, all_map, all_at, all_selected}
 use Rattle.choice.specs.Choice.{Grant}
@@ -23,47 +23,50 @@ use Rattle.listing.specs.Ranges.{ranges}
 use Rattle.histories.specs.Kinds as kinds
 use Rattle.rules.specs.Plain.{Booking, Plain, empty, span, terms, until, uses, taken, capacity, graph, free, low, with_book}
 use Rattle.rules.specs.Calls.{Ask, book, offer, list, cancel, move_clock, show, Call, set_up, set_up_with, ask, Answer, done, starts, lists, shows, refused, refuse, check, checked, numbers, stands, number_ok, request_ok, own_checks, request_checks, chosen, best, every, put_in, take_out, move_to, next, list_fits}
-use Rattle.rules.specs.Tables.{Tables, tables, held, sized, table_checks}
+use Rattle.rules.specs.Tables.{Tables, tables, held, sized, guard_check, table_checks}
 use Rattle.rules.specs.Desk.{answer, answer_with, left_by, outcome}
 use Rattle.rules.specs.Sound.{LinkRight, BookingRight, Obeys}
 use Rattle.rules.specs.Choosing.{Carries}
 use Rattle.rules.proofs.Uses.{uses_most, taken_put_in, taken_permuted, taken_part}
 use Rattle.rules.proofs.Book.{by_number_is}
-use Rattle.rules.proofs.Checks.{Passed, checked_elim, passed_answer, passed_done}
+use Rattle.rules.proofs.Checks.{done≢refuse, Passed, checked_elim, passed_all}
+use Rattle.rules.proofs.Exits.{set_up_answer}
 use Rattle.rules.proofs.Tests.{links_tell, sized_tells, RequestRight, request_right}
 use Rattle.rules.proofs.Choices.{choice_by, GoodGrant, best_elim}
 use Rattle.rules.proofs.Obeys.{right_in, free_permuted, tables_permuted, held_ordered, tables_ordered, tables_sound, tables_sized}
 
 -- ---- setting up
 
--- a set-up is accepted on tables of the right sizes with right links
-pub set_up_accepted : (links : List Link) (t : Tables) → sized links t ≡ true → All LinkRight links → (outcome links t set_up).answer ≡ done
-unfolding kinds.outcome kinds.answer_on checked
-set_up_accepted links t size right = passed_answer refuse (table_checks links t set_up) done (size, ((links_tell links).1 right, tt))
+module _ (links : List Link) (t : Tables) (guard : ℕ) where
+  -- a set-up is accepted on tables of the right sizes with a guard in range and right links
+  pub set_up_accepted : guard ≤ most_guard → sized links t ≡ true → All LinkRight links → (outcome links t (set_up guard)).answer ≡ done
+  unfolding kinds.outcome
+  set_up_accepted short size right = set_up_answer links t guard (size, ((at_most guard most_guard).1 short, ((links_tell links).1 right, tt)))
 
--- and only on those
-pub set_up_passed : (links : List Link) (t : Tables) → (outcome links t set_up).answer ≡ done → Within 1 most_links (length links) × All LinkRight links
-unfolding kinds.outcome kinds.answer_on checked
-set_up_passed links t e =
-    let h = passed_done (table_checks links t set_up) e in
-    (((sized_tells links t).0 h.0).links_right, (links_tell links).0 h.1.0)
+  -- and only on those
+  pub set_up_passed : (outcome links t (set_up guard)).answer ≡ done → Within 1 most_links (length links) × (guard ≤ most_guard) × All LinkRight links
+  unfolding kinds.outcome kinds.answer_on
+  set_up_passed e =
+      let h = passed_all refuse (table_checks links t (set_up guard)) (answer_with links (held t) (set_up guard)) (λ k f. done≢refuse (sym e ∙ f)) in
+      (((sized_tells links t).0 h.0).links_right, (at_most guard most_guard).0 h.1.0, (links_tell links).0 h.1.1.0)
 
-pub set_up_leaves : (links : List Link) (t : Tables) → (outcome links t set_up).answer ≡ done → (outcome links t set_up).tables ≡ tables links empty
-unfolding kinds.outcome
-set_up_leaves links t e = ap (left_by links t set_up) e
+  pub set_up_leaves : (outcome links t (set_up guard)).answer ≡ done → (outcome links t (set_up guard)).tables ≡ tables links (empty guard)
+  unfolding kinds.outcome
+  set_up_leaves e = ap (left_by links t (set_up guard)) e
 
 -- ---- the next state obeys the rules
 
-pub obeys_empty : (links : List Link) → All LinkRight links → Obeys links empty
+pub obeys_empty : (links : List Link) (guard : ℕ) → guard ≤ most_guard → All LinkRight links → Obeys links (empty guard)
 unfolding sum
-obeys_empty links a = record { links_right = a; clock_right = omega arith; not_too_many = omega arith; numbers_differ = tt; bookings_right = tt; not_oversold = λ l m h. omega arith }
+obeys_empty links guard short a = record { links_right = a; clock_right = omega arith; guard_right = short; not_too_many = omega arith; numbers_differ = tt; bookings_right = tt; not_oversold = λ l m h. omega arith }
 
 -- some of the bookings, at a clock at which they stand
-obeys_part : (links : List Link) (p : Plain) (t : ℕ) (bs : List Booking) → Obeys links p → t ≤ last_minute → Sublistᴰ bs p.bookings → All (BookingRight links (record { clock = t; bookings = bs })) bs
-    → Obeys links (record { clock = t; bookings = bs })
+obeys_part : (links : List Link) (p : Plain) (t : ℕ) (bs : List Booking) → Obeys links p → t ≤ last_minute → Sublistᴰ bs p.bookings → All (BookingRight links (record { clock = t; guard = p.guard; bookings = bs })) bs
+    → Obeys links (record { clock = t; guard = p.guard; bookings = bs })
 obeys_part links p t bs o h q a = record {
   links_right = o.links_right;
   clock_right = h;
+  guard_right = o.guard_right;
   not_too_many = omega (arith, length_part q, o.not_too_many);
   numbers_differ = distinct_part (map_part (λ b. b.number) q) o.numbers_differ;
   bookings_right = a;
@@ -108,6 +111,7 @@ module _ (links : List Link) (p : Plain) (o : Obeys links p) (n : ℕ) (r : Requ
   obeys_booked = record {
     links_right = o.links_right;
     clock_right = o.clock_right;
+    guard_right = o.guard_right;
     not_too_many = room;
     numbers_differ = (absent n (numbers p.bookings) new, o.numbers_differ);
     bookings_right = (booked_right, all_map (BookingRight links p) (BookingRight links (put_in booked p)) (λ b r. right_in links p (put_in booked p) b r.still_stands r) p.bookings o.bookings_right);
@@ -166,6 +170,12 @@ unfolding checked
 passed_behind k l true x = refl
 passed_behind k l false x = refl
 
+-- a check that is made twice
+passed_again : (k : ℕ) (t : Bool) (x : Answer) → checked refuse (check k t ∷ []) (checked refuse (check k t ∷ []) x) ≡ checked refuse (check k t ∷ []) x
+unfolding checked
+passed_again k true x = refl
+passed_again k false x = refl
+
 module _ (links : List Link) (p : Plain) (o : Obeys links p) where
   -- an answer of another form changes nothing
   again : tables links (held (tables links p)) ≡ tables links p
@@ -222,7 +232,7 @@ module _ (links : List Link) (p : Plain) (o : Obeys links p) where
 
   pub stays_obeyed : (c : Call) → Obeys links (next p c (answer_with links p c))
   unfolding kinds.answer checked Next
-  stays_obeyed (set_up_with s) = obeys_empty links o.links_right
+  stays_obeyed (set_up_with guard) = checked_elim refuse (Next (set_up guard)) (guard_check guard ∷ []) done (λ ok. obeys_empty links guard ((at_most guard most_guard).0 ok.0) o.links_right) (λ k. o)
   stays_obeyed (ask (book n r)) = checked_elim refuse (Next (ask (book n r))) (own_checks links p (book n r)) (best links p r) (booked_obeys n r) (λ k. o)
   stays_obeyed (ask (offer r)) = o
   stays_obeyed (ask (list n r)) = o
@@ -238,7 +248,7 @@ module _ (links : List Link) (p : Plain) (o : Obeys links p) where
     -- the tables pass, and whether a lent list fits is among the call's own checks too
     tables_pass : (c : Call) → checked refuse (table_checks links (tables links p) c) (answer_with links p c) ≡ answer_with links p c
     unfolding checked
-    tables_pass (set_up_with s) = rw (tables_sized links p o count, (links_tell links).1 o.links_right)
+    tables_pass (set_up_with guard) = rw (tables_sized links p o count, (links_tell links).1 o.links_right) (passed_behind refusals.bad_field refusals.bad_link (leb guard most_guard) (answer_with links p (set_up guard)) ∙ passed_again refusals.bad_field (leb guard most_guard) done)
     tables_pass (ask a) = rw (tables_sized links p o count, tables_sound links p o) (passed_behind refusals.bad_list refusals.unsound (list_fits a) (answer links p a) ∙ list_checked links p a)
 
     -- a call is answered from the links and the plain book

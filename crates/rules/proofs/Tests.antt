@@ -86,10 +86,10 @@ none_oversold_tells links p m = (
 pub same_tells : (s t : Tables) → Tells (same s t) (s ≡ t)
 same_tells s t =
     let b = equals s.head.clock.0 t.head.clock.0 & equals s.head.links t.head.links & equals s.head.bookings t.head.bookings
-    & equal_tells s.events t.events & equal_tells s.free t.free & equal_tells s.book t.book in (
+    & equals s.head.guard.0 t.head.guard.0 & equal_tells s.events t.events & equal_tells s.free t.free & equal_tells s.book t.book in (
       (λ e. let h = b.0 e in λ i. record
-          { head = record { clock = record { 0 = h.0.0.0.0.0 i }; links = h.0.0.0.0.1 i; bookings = h.0.0.0.1 i }; events = h.0.0.1 i; free = h.0.1 i; book = h.1 i }),
-      λ e. b.1 (((((ap (λ x. x.head.clock.0) e, ap (λ x. x.head.links) e), ap (λ x. x.head.bookings) e), ap (λ x. x.events) e), ap (λ x. x.free) e), ap (λ x. x.book) e),
+          { head = record { clock = record { 0 = h.0.0.0.0.0.0 i }; links = h.0.0.0.0.0.1 i; bookings = h.0.0.0.0.1 i; guard = record { 0 = h.0.0.0.1 i } }; events = h.0.0.1 i; free = h.0.1 i; book = h.1 i }),
+      λ e. b.1 ((((((ap (λ x. x.head.clock.0) e, ap (λ x. x.head.links) e), ap (λ x. x.head.bookings) e), ap (λ x. x.head.guard.0) e), ap (λ x. x.events) e), ap (λ x. x.free) e), ap (λ x. x.book) e),
     )
 
 pub record Sized (links : List Link) (t : Tables) : Type 0 where

@@ -1,11 +1,11 @@
--- Tables are sound exactly if they pass the checks one by one: links, clock, the head's counts, the book, and the figures.
+-- Tables are sound exactly if they pass the checks one by one: links, clock, guard, the head's counts, the book, and the figures.
 use mathlib.Core.Path.{◌≡◌, sym, ap}
 use mathlib.Core.List.{List}
 use mathlib.Core.Bool.{true, false}
 use Prim.Native.Nat.{ℕ, ◌≤◌, ◌<◌}
 use lib.ListN.{length}
 use Rattle.units.specs.declared.Link.{Link}
-use Rattle.units.specs.Limits.{most_bookings, last_minute}
+use Rattle.units.specs.Limits.{most_bookings, last_minute, most_guard}
 use Rattle.units.proofs.Parts.{all_of}
 use Rattle.units.proofs.Search.{not_true}
 use Rattle.rules.specs.Plain.{taken, capacity}
@@ -18,6 +18,7 @@ use Rattle.soundness.proofs.Tidy.{BookRight, book_tells}
 pub record Checked (links : List Link) (t : Tables) : Type 0 where
   pub links_right : links_ok links ≡ true
   pub clock_right : t.head.clock.0 ≤ last_minute
+  pub guard_right : t.head.guard.0 ≤ most_guard
   pub links_counted : t.head.links ≡ length links
   pub few_bookings : t.head.bookings ≤ most_bookings
   pub book_right : book_ok links t.book (held t) ≡ true
@@ -29,6 +30,7 @@ module _ (links : List Link) (t : Tables) where
   checked_sound c = sound_test links t (record {
     links_right = (links_tell links).0 c.links_right;
     clock_right = c.clock_right;
+    guard_right = c.guard_right;
     count_right = c.few_bookings;
     in_order = book.0.0;
     bookings_right = book.0.1;
@@ -41,7 +43,7 @@ module _ (links : List Link) (t : Tables) where
 
       all_same : t ≡ tables links (held t)
       all_same = λ i. record {
-        head = record { clock = t.head.clock; links = c.links_counted i; bookings = sym (held_count t) i };
+        head = record { clock = t.head.clock; links = c.links_counted i; bookings = sym (held_count t) i; guard = t.head.guard };
         events = c.figures_right.events_are i;
         free = c.figures_right.free_are i;
         book = book.1 i;
@@ -54,6 +56,7 @@ module _ (links : List Link) (t : Tables) where
       record {
         links_right = (links_tell links).1 s.links_right;
         clock_right = s.clock_right;
+        guard_right = s.guard_right;
         links_counted = ap (λ x. x.head.links) s.tables_are;
         few_bookings = s.count_right;
         book_right = (book_tells links t.book (held t)).1 ((s.in_order, s.bookings_right), ap (λ x. x.book) s.tables_are);

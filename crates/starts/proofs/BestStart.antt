@@ -62,9 +62,9 @@ module _ (links : List Link) (t : Tables) (f : Fine links t) where
     best_asks = record {
       in_range = ends_in_range;
       sized = tables_sized;
-      lasts = q.duration_right.0;
+      lasts = omega (arith, q.duration_right.0);
       are_events = are_events t.events t.head.clock.0 (all_times (held t)) shown_events;
-      askable = record { not_past = omega (arith, ap clock_of shown_events); in_time = omega (arith, q.duration_right.1, q.latest_right) };
+      askable = record { not_past = omega (arith, ap clock_of shown_events); in_time = omega (arith, q.duration_right.1, q.latest_right, (book_obeys f).guard_right) };
     }
 
     -- the choice by the tables, as the chooser promises it

@@ -29,7 +29,7 @@ book_is c = c.drop_ended.ensures.1 ∙ book_moved c.requires.fine c.args.minute.
 
 -- the head after the call
 head_after : (c : After-drop_ended) → let d = c.args.desk.now in with_count (with_clock d.head.now c.args.minute.0) c.drop_ended.result ≡ head_of d.links.now (after c.args.desk.now c.args.minute.0)
-head_after c = head_is c.args.desk.now.links.now (after c.args.desk.now c.args.minute.0) refl (links_are c.requires.fine) (count_is c)
+head_after c = head_is c.args.desk.now.links.now (after c.args.desk.now c.args.minute.0) refl (links_are c.requires.fine) (count_is c) refl
 
 pub drop_ended-requires : goal.drop_ended-requires
 drop_ended-requires c = omega (arith, few_bookings c.requires.fine, (sizes c.requires.fine).book_right)

@@ -1,7 +1,7 @@
 -- `enter` meets its contract: the booking is put in at the place of its number, and added to the events and the figures.
 use Rattle.std.proofs.Common.{ap, ◌∙◌, arith}
 use Rattle.book.specs.Places.{with_booking}
-use Rattle.rules.proofs.Fine.{sizes, few_bookings}
+use Rattle.rules.proofs.Fine.{sizes, few_bookings, book_obeys}
 use Rattle.changes.proofs.Written.{granted_place, enter_asks, granted_right, granted_room, entered_tables}
 use Rattle.changes.proofs.enter.Goals as goal
 
@@ -15,7 +15,7 @@ pub invariant_of-add_booking : goal.invariant_of-add_booking
 invariant_of-add_booking c = record { right = granted_right c.requires.fine c.requires.grantable }
 
 pub add_booking-requires : goal.add_booking-requires
-add_booking-requires c = granted_room c.requires.fine c.requires.grantable
+add_booking-requires c = record { room = granted_room c.requires.fine c.requires.grantable; short_guard = (book_obeys c.requires.fine).guard_right }
 
 pub overflow_add-head : goal.overflow_add-head
 overflow_add-head c = omega (arith, few_bookings c.requires.fine)

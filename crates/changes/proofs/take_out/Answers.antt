@@ -39,7 +39,7 @@ gone c = released c.requires.fine c.args.number c.in-Some.place (sym c.find.ensu
 
 -- the head after the call
 one_less : (c : In-Some) → let d = c.args.desk.now in with_count d.head.now (d.head.now.bookings - 1) ≡ head_of d.links.now (after d c.args.number)
-one_less c = let d = c.args.desk.now in head_is d.links.now (after d c.args.number) refl (links_are c.requires.fine) (gone c).count_is
+one_less c = let d = c.args.desk.now in head_is d.links.now (after d c.args.number) refl (links_are c.requires.fine) (gone c).count_is refl
 
 book_is : (c : After-remove_place) → c.remove_place.new.book ≡ book_table (after c.args.desk.now c.args.number)
 book_is c = c.remove_place.ensures ∙ (released c.requires.fine c.args.number c.in-Some.place (sym c.find.ensures ∙ c.in-Some.is)).book_is

@@ -2,6 +2,8 @@
 use mathlib.Core.Path.{◌≡◌, refl, sym, ◌∙◌}
 use borrow.Author.Rules.{rules}
 use Rattle.units.specs.Refusals.{number, number_of}
+use Rattle.units.specs.Limits.{most_guard}
+use Rattle.units.proofs.Tests.{at_most}
 use Rattle.units.proofs.Refusals.{numbered}
 use Rattle.rules.specs.Calls.{set_up, first_refusal}
 use Rattle.rules.specs.Tables.{table_checks}
@@ -15,29 +17,30 @@ pub returns-in_err-check_set_up-clause-answer : goal.returns-in_err-check_set_up
 returns-in_err-check_set_up-clause-answer c =
     let d = c.args.desk.now in
     let same : number_of c.from_residual.result ≡ number c.in_err-check_set_up.field-0.0 = search rules in
-    let k = found c.tables.ensures.links c.tables.ensures.tables (λ l t. first_refusal (table_checks l t set_up)) c.in_err-check_set_up.ensures in
-    same ∙ handed_number d.links.now (tables_of d) set_up _ (set_up_stopped d.links.now (tables_of d) _ (sym k) (numbered _))
+    let k = found c.tables.ensures.links c.tables.ensures.tables (λ l t. first_refusal (table_checks l t (set_up c.args.guard.0))) c.in_err-check_set_up.ensures in
+    same ∙ handed_number d.links.now (tables_of d) (set_up c.args.guard.0) _ (set_up_stopped d.links.now (tables_of d) c.args.guard.0 _ (sym k) (numbered _))
 
 pub returns-in_err-check_set_up-clause-tables : goal.returns-in_err-check_set_up-clause-tables
 returns-in_err-check_set_up-clause-tables c =
     let d = c.args.desk.now in
-    let k = found c.tables.ensures.links c.tables.ensures.tables (λ l t. first_refusal (table_checks l t set_up)) c.in_err-check_set_up.ensures in
-    handed_tables d.links.now (tables_of d) set_up _ (set_up_stopped d.links.now (tables_of d) _ (sym k) (numbered _)) refl
+    let k = found c.tables.ensures.links c.tables.ensures.tables (λ l t. first_refusal (table_checks l t (set_up c.args.guard.0))) c.in_err-check_set_up.ensures in
+    handed_tables d.links.now (tables_of d) (set_up c.args.guard.0) _ (set_up_stopped d.links.now (tables_of d) c.args.guard.0 _ (sym k) (numbered _)) refl
 
 pub reset-requires : goal.reset-requires
 reset-requires c =
     let d = c.args.desk.now in
-    let k = found c.tables.ensures.links c.tables.ensures.tables (λ l t. first_refusal (table_checks l t set_up)) c.in_ok-check_set_up.ensures in
-    (set_up_passed d.links.now (tables_of d) (sym k)).0
+    let k = found c.tables.ensures.links c.tables.ensures.tables (λ l t. first_refusal (table_checks l t (set_up c.args.guard.0))) c.in_ok-check_set_up.ensures in
+    let ok = set_up_passed d.links.now (tables_of d) c.args.guard.0 (sym k) in
+    record { sized = ok.0; short_guard = (at_most c.args.guard.0 most_guard).0 ok.1.0 }
 
 pub returns-clause-answer : goal.returns-clause-answer
 returns-clause-answer c =
     let d = c.args.desk.now in
-    let k = found c.tables.ensures.links c.tables.ensures.tables (λ l t. first_refusal (table_checks l t set_up)) c.in_ok-check_set_up.ensures in
-    handed_number d.links.now (tables_of d) set_up _ (set_up_done d.links.now (tables_of d) (sym k))
+    let k = found c.tables.ensures.links c.tables.ensures.tables (λ l t. first_refusal (table_checks l t (set_up c.args.guard.0))) c.in_ok-check_set_up.ensures in
+    handed_number d.links.now (tables_of d) (set_up c.args.guard.0) _ (set_up_done d.links.now (tables_of d) c.args.guard.0 (sym k))
 
 pub returns-clause-tables : goal.returns-clause-tables
 returns-clause-tables c =
     let d = c.args.desk.now in
-    let k = found c.tables.ensures.links c.tables.ensures.tables (λ l t. first_refusal (table_checks l t set_up)) c.in_ok-check_set_up.ensures in
-    handed_tables d.links.now (tables_of d) set_up _ (set_up_done d.links.now (tables_of d) (sym k)) c.reset.ensures.tables
+    let k = found c.tables.ensures.links c.tables.ensures.tables (λ l t. first_refusal (table_checks l t (set_up c.args.guard.0))) c.in_ok-check_set_up.ensures in
+    handed_tables d.links.now (tables_of d) (set_up c.args.guard.0) _ (set_up_done d.links.now (tables_of d) c.args.guard.0 (sym k)) c.reset.ensures.tables

@@ -19,8 +19,8 @@ loop-place-init c =
 pub invariant_of-b : goal.invariant_of-b
 invariant_of-b c = record { right = right_before c.requires.can c.requires.enough c.booking_at.ensures (omega arith) (omega arith) }
 
-pub add_booking-fits-requires : goal.add_booking-fits-requires
-add_booking-fits-requires c = room_before c.requires.can c.requires.enough c.booking_at.ensures (omega arith) (omega arith) c.loop-place.invariant
+pub add_booking-fits-requires-clause-room : goal.add_booking-fits-requires-clause-room
+add_booking-fits-requires-clause-room c = room_before c.requires.can c.requires.enough c.booking_at.ensures (omega arith) (omega arith) c.loop-place.invariant
 
 pub loop-place-preserved : goal.loop-place-preserved
 loop-place-preserved c = rebuilt_before c.requires.can c.requires.enough c.booking_at.ensures (omega arith) (omega arith) c.loop-place.invariant c.add_booking-fits.ensures

@@ -25,6 +25,9 @@ returns-then-not-links_right c = let t = c.args.tables.now in unsound t.links.no
 pub returns-then-head-gt-MAX_MINUTE : goal.returns-then-head-gt-MAX_MINUTE
 returns-then-head-gt-MAX_MINUTE c = let t = c.args.tables.now in unsound t.links.now (tables_in t) (λ k. omega (arith, k.clock_right, c.if-head-gt-MAX_MINUTE.true))
 
+pub returns-then-head-gt-MAX_GUARD : goal.returns-then-head-gt-MAX_GUARD
+returns-then-head-gt-MAX_GUARD c = let t = c.args.tables.now in unsound t.links.now (tables_in t) (λ k. omega (arith, k.guard_right, c.if-head-gt-MAX_GUARD.true))
+
 pub returns-then-head-tables : goal.returns-then-head-tables
 returns-then-head-tables c = let t = c.args.tables.now in unsound t.links.now (tables_in t) (λ k. c.if-head-tables.true k.links_counted)
 
@@ -44,6 +47,7 @@ figures_right-requires c =
       free_sized = size.free_right;
       book_sized = size.book_right;
       few_bookings = c.if-head-gt-BOOKINGS.false;
+      short_guard = c.if-head-gt-MAX_GUARD.false;
       counts_right = book_counts links t.head t.book.now (book_fits at.Else-head-gt-BOOKINGS) passed;
       bookings_right = ((book_tells links t.book.now (held (tables_in t))).0 passed).0.1;
     }
@@ -55,6 +59,7 @@ returns-then-book_right c =
     (λ e. checked_sound t.links.now (tables_in t) (record {
       links_right = sym c.links_right.ensures ∙ c.if-not-links_right.false;
       clock_right = c.if-head-gt-MAX_MINUTE.false;
+      guard_right = c.if-head-gt-MAX_GUARD.false;
       links_counted = c.if-head-tables.false;
       few_bookings = c.if-head-gt-BOOKINGS.false;
       book_right = sym c.book_right.ensures ∙ c.if-book_right.true;
