@@ -1,4 +1,4 @@
--- The start of a session looks at its first bytes alone: its first byte, and the link records that this counts.
+-- The start of a session looks at its first bytes alone: its first byte, and the guard and the link records that this counts.
 use mathlib.Core.Path.{◌≡◌, refl, sym, ap, ap₂, ◌∙◌}
 use mathlib.Core.List.{List, [], ◌∷◌, map}
 use mathlib.Core.Bool.{Bool, true, false}
@@ -8,7 +8,7 @@ use native.Mathlib.Decide.{dec_le}
 use borrow.Author.Tests.{ne_eqb}
 use lib.Dec.{leb}
 use lib.ListN.{length, take, drop}
-use lib.Seq.{take_all}
+use lib.Seq.{take_all, get_or-take}
 use Rattle.std.specs.Prelude.{None, Some, is_err, eqb}
 use Rattle.std.proofs.lemmas.List.{drop-take, take-take, length-take-le}
 use Rattle.std.proofs.lemmas.Bool.{le-leb}
@@ -20,11 +20,11 @@ use Rattle.units.specs.Search.{Found, at, nothing, first_from}
 use Rattle.units.proofs.Search.{IsFirst, first_from_found}
 use Rattle.units.specs.Refusals.{bad_size, bad_length, number_of}
 use Rattle.path_search.proofs.Agree.{first_from_agree}
-use Rattle.layout.specs.Layout.{lead_bytes, link_bytes}
+use Rattle.layout.specs.Layout.{count_bytes, lead_bytes, link_bytes}
 use Rattle.layout.specs.Records.{if_passed, link_read}
 use Rattle.layout.specs.Values.{link_values}
 use Rattle.rules.specs.Tables.{Tables}
-use Rattle.opening.specs.Opened.{link_record, unreadable, refusal_of, links_refusal, links_in, first_byte, records_size, first_size, bytes_refusal, Opened, by_set_up, opened}
+use Rattle.opening.specs.Opened.{link_record, unreadable, refusal_of, links_refusal, links_in, first_byte, guard_byte, rest_size, first_size, bytes_refusal, Opened, by_set_up, opened}
 
 -- a piece within the first n bytes
 piece_first : (size before n : ℕ) (bytes : List ℕ) → before + size ≤ n → take size (drop before (take n bytes)) ≡ take size (drop before bytes)
@@ -64,13 +64,14 @@ abbrev by_range : Bool → Bool → ℕ → ℕ
 by_range counted enough k = if_passed counted (if_passed enough k bad_length) bad_size
 
 -- what a start gives by what its bytes say
-abbrev by_refusal : Tables → ℕ → List Link → Opened
-by_refusal t k links = if_passed (eqb k 0) (by_set_up t links) (record { answer = record { refusal = k; links = [] }; tables = t })
+abbrev by_refusal : Tables → ℕ → List Link → ℕ → Opened
+by_refusal t k links guard = if_passed (eqb k 0) (by_set_up t links guard) (record { answer = record { refusal = k; links = [] }; tables = t })
 
 abbrev enough : ℕ → List ℕ → Bool
 enough b bs = leb (lead_bytes + b * link_bytes) (length (b ∷ bs))
 
-opened_by : (t : Tables) (b : ℕ) (bs : List ℕ) (x y : Bool) → within 1 most_links b ≡ x → enough b bs ≡ y → opened t (b ∷ bs) ≡ by_refusal t (by_range x y (links_refusal (b ∷ bs) b)) (links_in (b ∷ bs) b)
+opened_by : (t : Tables) (b : ℕ) (bs : List ℕ) (x y : Bool) → within 1 most_links b ≡ x → enough b bs ≡ y
+    → opened t (b ∷ bs) ≡ by_refusal t (by_range x y (links_refusal (b ∷ bs) b)) (links_in (b ∷ bs) b) (guard_byte (b ∷ bs))
 unfolding opened bytes_refusal
 opened_by t b bs x y p q =
     let not_empty : eqb (length (b ∷ bs)) 0 ≡ false = ne_eqb (length (b ∷ bs)) 0 (λ e. absurd (omega arith)) in
@@ -81,8 +82,10 @@ module _ (t : Tables) (b : ℕ) (bs : List ℕ) (n : ℕ) (cut : n < length bs) 
   cut_in_range q h =
       let long : length (take n bs) ≡ n = length-take-le n bs (omega arith) in
       let same : (i : ℕ) → i < b → link_record (take (suc n) (b ∷ bs)) i ≡ link_record (b ∷ bs) i = λ i k. record_first (suc n) (b ∷ bs) i (omega arith) in
+      let guard : guard_byte (b ∷ take n bs) ≡ guard_byte (b ∷ bs) = get_or-take n bs 0 0 (omega arith) in
       opened_by t b (take n bs) true true q (le-leb _ _ (omega arith))
-      ∙ ap₂ (λ k links. by_refusal t k links) (refusal_agrees (b ∷ take n bs) (b ∷ bs) b same) (links_agree (b ∷ take n bs) (b ∷ bs) b same)
+      ∙ ap₂ (λ k links. by_refusal t k links (guard_byte (b ∷ take n bs))) (refusal_agrees (b ∷ take n bs) (b ∷ bs) b same) (links_agree (b ∷ take n bs) (b ∷ bs) b same)
+      ∙ ap (by_refusal t (links_refusal (b ∷ bs) b) (links_in (b ∷ bs) b)) guard
       ∙ sym (opened_by t b bs true true q (le-leb _ _ (omega arith)))
 
   cut_first : first_size (b ∷ bs) ≤ suc n → opened t (b ∷ take n bs) ≡ opened t (b ∷ bs)
@@ -90,7 +93,7 @@ module _ (t : Tables) (b : ℕ) (bs : List ℕ) (n : ℕ) (cut : n < length bs) 
   cut_first h = by (within 1 most_links b) refl
     where
       by : (x : Bool) → within 1 most_links b ≡ x → opened t (b ∷ take n bs) ≡ opened t (b ∷ bs)
-      by true q = cut_in_range q (rw q at h)
+      by true q = let k : count_bytes + (1 + b * link_bytes) ≤ suc n = rw q at h in cut_in_range q (omega (arith, k))
       by false q = opened_by t b (take n bs) false _ q refl ∙ sym (opened_by t b bs false _ q refl)
 
 -- more bytes than those change nothing
@@ -100,23 +103,23 @@ opened_first t bytes zero h = absurd (omega arith)
 opened_first t [] (suc n) h = refl
 opened_first t (b ∷ bs) (suc n) h = elim (dec_le (length bs) n) [ yes k ↦ ap (λ l. opened t (b ∷ l)) (take_all n bs k) | no k ↦ cut_first t b bs n (omega arith) h ]
 
--- the first bytes by what follows the first one, as `records_size` says it
+-- the first bytes by what follows the first one, as `rest_size` says it
 module _ (bytes : List ℕ) where
-  pub size_counted : {n : ℕ} → records_size (first_byte bytes) ≡ Some n → (first_size bytes ≡ lead_bytes + n) × (n ≤ most_links * link_bytes)
+  pub size_counted : {n : ℕ} → rest_size (first_byte bytes) ≡ Some n → (first_size bytes ≡ count_bytes + n) × (n ≤ 1 + most_links * link_bytes)
   unfolding first_size
   size_counted {n} e = by (within 1 most_links (first_byte bytes)) refl e
     where
-      by : (x : Bool) → within 1 most_links (first_byte bytes) ≡ x → if_passed x (Some (first_byte bytes * link_bytes)) None ≡ Some n → (first_size bytes ≡ lead_bytes + n) × (n ≤ most_links * link_bytes)
+      by : (x : Bool) → within 1 most_links (first_byte bytes) ≡ x → if_passed x (Some (1 + first_byte bytes * link_bytes)) None ≡ Some n → (first_size bytes ≡ count_bytes + n) × (n ≤ 1 + most_links * link_bytes)
       by true q e =
-          let same : first_byte bytes * link_bytes ≡ n = cc in
+          let same : 1 + first_byte bytes * link_bytes ≡ n = cc in
           let few = ((in_range 1 most_links (first_byte bytes)).0 q).1 in
-          (rw q (ap (λ k. lead_bytes + k) same), omega (arith, same, few))
+          (rw q (ap (λ k. count_bytes + k) same), omega (arith, same, few))
       by false q e = absurd (let z : ◌≡◌ {A = ℕ} 0 1 = cc in omega arith)
 
-  pub size_uncounted : records_size (first_byte bytes) ≡ None → first_size bytes ≡ lead_bytes
+  pub size_uncounted : rest_size (first_byte bytes) ≡ None → first_size bytes ≡ count_bytes
   unfolding first_size
   size_uncounted e = by (within 1 most_links (first_byte bytes)) refl e
     where
-      by : (x : Bool) → within 1 most_links (first_byte bytes) ≡ x → if_passed x (Some (first_byte bytes * link_bytes)) None ≡ None → first_size bytes ≡ lead_bytes
+      by : (x : Bool) → within 1 most_links (first_byte bytes) ≡ x → if_passed x (Some (1 + first_byte bytes * link_bytes)) None ≡ None → first_size bytes ≡ count_bytes
       by true q e = absurd (let z : ◌≡◌ {A = ℕ} 0 1 = cc in omega arith)
       by false q e = rw q refl

@@ -21,7 +21,7 @@ use Rattle.units.specs.Lists.{count_from}
 use Rattle.units.proofs.Search.{first_from_first, first_from_nothing}
 use Rattle.opening.specs.Opened.{link_record, unreadable, refusal_of, links_refusal, links_in}
 
--- the pieces of a list, one by one, and those behind the first byte
+-- the pieces of a list, one by one, and those behind the count and the guard
 piece : (size k : ℕ) (xs : List ℕ) (i : ℕ) → i < k → get_or (first_chunks size k xs) i [] ≡ take size (drop (i * size) xs)
 piece size zero xs i h = absurd (omega arith)
 piece size (suc k) xs zero h = rw zero-mul refl

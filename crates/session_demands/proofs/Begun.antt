@@ -10,6 +10,7 @@ use Rattle.units.specs.Search.{first_from}
 use Rattle.layout.specs.Layout.{big_endian, cut, order_bytes}
 use Rattle.layout.specs.Records.{order_from, order_read, link_from, link_read}
 use Rattle.opening.specs.Opened.{link_record, links_refusal, links_in, first_size, bytes_refusal, opened}
+use Rattle.rules.specs.Calls.{checked}
 use Rattle.orders.specs.Ordered.{ordered}
 use Rattle.session.specs.Session.{Running, answered, orders, blank}
 use Rattle.session_demands.specs.Examples.{session_bytes}
@@ -31,7 +32,7 @@ many zero = []
 many (suc n) = no_order ++ many n
 
 unfoldable pub start : List ℕ
-start = take 25 session_bytes
+start = take 26 session_bytes
 
 unfoldable pub begun : ℕ → List ℕ
 begun n = start ++ many n
@@ -42,7 +43,7 @@ many_length zero = refl
 many_length (suc n) = omega (arith, many_length n)
 
 pub start_accepted : (opened blank start).answer.refusal ≡ 0
-unfolding start bytes_refusal links_refusal link_record link_read link_from big_endian cut sum links_in count_from first_from
+unfolding start bytes_refusal links_refusal link_record link_read link_from big_endian cut sum links_in count_from first_from checked
 start_accepted = ap (λ told. told.refusal) (start_answer start)
 
 pub start_whole : length start ≡ first_size start + 0 * order_bytes

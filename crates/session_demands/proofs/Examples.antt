@@ -21,12 +21,14 @@ unfolding plain_session plain_lines orders first_size link_record links_refusal 
 session_file = session_plain session_bytes ∙ refl
 
 pub starts_refused : RefusesStarts session
-unfolding plain_session link_record links_refusal links_in bytes_refusal count_from big_endian cut sum link_from link_read first_from digits decimal answer line
+unfolding plain_session link_record links_refusal links_in bytes_refusal count_from big_endian cut sum link_from link_read first_from checked digits decimal answer line
 starts_refused = record {
   no_byte = session_plain _ ∙ refl;
   no_links = session_plain _ ∙ refl;
   too_many = session_plain _ ∙ refl;
+  no_guard = session_plain _ ∙ refl;
   too_few_bytes = session_plain _ ∙ refl;
   bits_set = session_plain _ ∙ refl;
+  long_guard = session_plain _ ∙ refl;
   same_node = session_plain _ ∙ refl;
 }

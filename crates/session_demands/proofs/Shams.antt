@@ -34,7 +34,7 @@ use Rattle.session.specs.Session.{Running, answered, behind, orders, blank, star
 use Rattle.session_demands.specs.Examples.{session_bytes}
 use Rattle.session_demands.specs.FromPlainBook.{plain_told, line_at, shown}
 use Rattle.session_demands.specs.Cutting.{LineAt, LineByLine, Remembers}
-use Rattle.session_demands.proofs.PlainBook.{found, fresh, fresh_plain, started_fresh, answered_plain}
+use Rattle.session_demands.proofs.PlainBook.{found, asked_guard, fresh, fresh_plain, started_fresh, answered_plain}
 use Rattle.session_demands.proofs.Cutting.{front, border_more}
 use Rattle.session_demands.proofs.LineByLine.{ordered_line}
 use Rattle.session_demands.proofs.Remembers.{refused_line, line_1}
@@ -89,7 +89,7 @@ module _ (block : ℕ) (some : 1 ≤ block) where
 -- ---- 3. it forgets its tables behind a block
 
 pub forgotten : ℕ → Running → Running
-forgotten block r = record { links = r.links; tables = if_passed (eqb r.place (block + 1)) (tables r.links empty) r.tables; place = r.place }
+forgotten block r = record { links = r.links; tables = if_passed (eqb r.place (block + 1)) (tables r.links (empty 0)) r.tables; place = r.place }
 
 pub forgets : ℕ → List ℕ → List ℕ
 forgets block = program_with (λ place. place) (forgotten block)
@@ -115,10 +115,10 @@ module _ (block : ℕ) where
 
 -- its first order and its last
 booking : List ℕ
-booking = take order_bytes (drop 25 session_bytes)
+booking = take order_bytes (drop 26 session_bytes)
 
 cancellation : List ℕ
-cancellation = drop 137 session_bytes
+cancellation = drop 138 session_bytes
 
 wish : Wish
 wish = record { from = 0; to = 2; bandwidth = record { 0 = 4 }; duration = record { 0 = 10 }; earliest = record { 0 = 0 }; latest = None }
@@ -135,11 +135,11 @@ grant : Grant
 grant = record { start = 0; path = 2 ∷ [] }
 
 -- on the empty book the one gets a start, and the other does not stand
-booking_answer : plain_answer (found start) empty (book 7 (request_of wish)) ≡ starts grant
+booking_answer : plain_answer (found start) (empty (asked_guard start)) (book 7 (request_of wish)) ≡ starts grant
 unfolding start wish grant links_in link_record link_read link_from big_endian cut sum count_from kinds.answer checked best member earliest can_start reaches lowest fewest route first_from all_from any_below
 booking_answer = refl
 
-cancellation_answer : plain_answer (found start) empty (cancel 7) ≡ refuse 9
+cancellation_answer : plain_answer (found start) (empty (asked_guard start)) (cancel 7) ≡ refuse 9
 unfolding kinds.answer checked member
 cancellation_answer = refl
 
@@ -176,13 +176,13 @@ module _ (n : ℕ) where
   next_line : line_of (1 + n + 1) (answered (at_place (1 + n + 1)) cancellation) ≡ decimal (n + 2) ++ (codes " refused " ++ (decimal 9 ++ codes "\n"))
   next_line =
       ap (line_of (1 + n + 1)) (answered_plain (at_place (1 + n + 1)) (fresh_plain start start_accepted (1 + n + 1)) cancellation)
-      ∙ ap (λ read. line_at (1 + n + 1) (plain_told (found start) empty read)) cancellation_read
+      ∙ ap (λ read. line_at (1 + n + 1) (plain_told (found start) (empty (asked_guard start)) read)) cancellation_read
       ∙ ap (λ a. line_at (1 + n + 1) (shown (Cancel 7) a)) cancellation_answer
       ∙ refused_line (1 + n + 1) (Cancel 7) 9 (lit≤ tt)
       ∙ (let e : 1 + n + 1 ≡ n + 2 = omega arith in ap (λ place. decimal place ++ (codes " refused " ++ (decimal 9 ++ codes "\n"))) e)
 
   reached_next : reached_with (λ place. place) keeps (begun n ++ booking) ≡ at_place (1 + n + 1)
-  unfolding forgotten
+  unfolding forgotten start
   reached_next =
       let now : eqb (1 + n + 1) (n + 1 + 1) ≡ true = eq-eqb _ _ (omega arith) in
       reached_more (λ place. place) keeps (begun n) booking n (begun_at n) (omega (arith, booking_length), omega (arith, booking_length))

@@ -17,7 +17,7 @@ order digits = spelled order_bytes digits
 abbrev pub busy_day : Sample
 busy_day = record {
   bytes =
-      6 ∷ []
+      6 ∷ 0 ∷ []
       -- link 0: from 0 to 1, 100 Mb/s
       ++ link 0x0040_0190_0000_0000
       -- link 1: from 1 to 3, 100 Mb/s
@@ -104,7 +104,7 @@ busy_day = record {
 abbrev pub full_book : Sample
 full_book = record {
   bytes =
-      2 ∷ []
+      2 ∷ 0 ∷ []
       -- link 0: from 0 to 1, 40 Mb/s
       ++ link 0x0040_00A0_0000_0000
       -- link 1: from 0 to 1, 40 Mb/s

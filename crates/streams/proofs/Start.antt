@@ -7,7 +7,7 @@ use Rattle.std.proofs.lemmas.List.{take_all, length-take-le, take-append-le}
 use borrow.Rule.Slice.PartMut.{put_mid}
 use Rattle.std.proofs.Math.Seq.{take-append_seam, take-append-add, drop-append_seam}
 use native.Mathlib.Decide.{dec_lt}
-use Rattle.opening.specs.Opened.{first_size, records_size}
+use Rattle.opening.specs.Opened.{first_size, rest_size}
 use Rattle.opening.proofs.First.{size_counted, size_uncounted}
 use Rattle.streams.specs.Reading.{TakesStart}
 
@@ -41,18 +41,18 @@ module _ (old left : Option (List ℕ)) (n : ℕ) (some : n ≡ 0 → ⊥) (few 
   came_one : (b : ℕ) → Consumes old left (take n (b ∷ [])) → Consumes old left (b ∷ [])
   came_one b c = let e : n ≡ 1 = omega (arith, some, few) in subst (λ m. Consumes old left (take m (b ∷ []))) e c
 
-  pub lead_alone : (lead post : List ℕ) → length lead ≡ 1 → Consumes old left (take n lead) → records_size (get_or (lead ++ post) 0 0) ≡ None → TakesStart old left (take 1 (lead ++ post))
-  lead_alone [] post one c e = absurd (omega (arith, one))
-  lead_alone (b ∷ d ∷ bs) post one c e = absurd (omega (arith, one))
-  lead_alone (b ∷ []) post one c e =
+  pub first_alone : (lead post : List ℕ) → length lead ≡ 1 → Consumes old left (take n lead) → rest_size (get_or (lead ++ post) 0 0) ≡ None → TakesStart old left (take 1 (lead ++ post))
+  first_alone [] post one c e = absurd (omega (arith, one))
+  first_alone (b ∷ d ∷ bs) post one c e = absurd (omega (arith, one))
+  first_alone (b ∷ []) post one c e =
       let size = size_uncounted (b ∷ []) e in
       start_came old left (b ∷ []) (omega arith) (omega (arith, size)) (λ less. absurd (omega (arith, less, size))) (came_one b c)
 
-  pub lead_and_records : (end : Option (List ℕ)) (size k : ℕ) (lead post records : List ℕ) → length lead ≡ 1 → Consumes old left (take n lead) → records_size (get_or (lead ++ post) 0 0) ≡ Some size
+  pub first_and_rest : (end : Option (List ℕ)) (size k : ℕ) (lead post records : List ℕ) → length lead ≡ 1 → Consumes old left (take n lead) → rest_size (get_or (lead ++ post) 0 0) ≡ Some size
       → length records ≡ size → k ≤ length records → Consumes left end (take k records) → (k < length records → IsAtEnd end) → TakesStart old end (take (1 + k) (put_mid 1 (1 + size - 1) (lead ++ post) records))
-  lead_and_records end size k [] post records one c e long within came ended = absurd (omega (arith, one))
-  lead_and_records end size k (b ∷ d ∷ bs) post records one c e long within came ended = absurd (omega (arith, one))
-  lead_and_records end size k (b ∷ []) post records one c e long within came ended =
+  first_and_rest end size k [] post records one c e long within came ended = absurd (omega (arith, one))
+  first_and_rest end size k (b ∷ d ∷ bs) post records one c e long within came ended = absurd (omega (arith, one))
+  first_and_rest end size k (b ∷ []) post records one c e long within came ended =
       let start : List ℕ = b ∷ take k records in
       let whole = (size_counted (b ∷ []) e).0 in
       let whole_start : first_size start ≡ 1 + size = size_front (b ∷ []) (take k records) (omega arith) ∙ whole in

@@ -11,5 +11,5 @@ unfolding refusal_answer tables_after
 returns-clause-fine c =
     let links = c.in_ok-links.links.now in
     let e = c.in_ok-set_up.ensures in
-    let f : Fine links (tables_of c.set_up.new.desk) = subst (Fine links) (sym e.tables) (set_up_sound links _ (sym e.answer)) in
+    let f : Fine links (tables_of c.set_up.new.desk) = subst (Fine links) (sym e.tables) (set_up_sound links _ _ (sym e.answer)) in
     search (rules, f)
