@@ -88,3 +88,8 @@ lawful = record {
   shown_free = λ links p count o l m b k s. (free links p l m, shown links p l m b k s, omega (arith, o.not_oversold l m b));
   same_tables = same_tables;
 }
+
+-- its rules for a plain book are document 01's
+pub obeyed : (links : List Link) (p : Plain) → lawful.Obeys links p → Obeys links p
+unfolding lawful
+obeyed links p o = o

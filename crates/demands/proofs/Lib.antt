@@ -9,5 +9,6 @@ pub mod Sound
 pub mod EventsSuffice
 pub mod Listing
 pub mod Cancelling
+pub mod Guarding
 pub mod Shams
 pub mod Examples

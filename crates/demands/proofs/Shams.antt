@@ -1,15 +1,17 @@
 -- The buyer's five sham desks, each refuted by the demand that is to exclude it, one that lists starts wrongly, two that answer an
--- offer wrongly after a cancellation, and three that answer an accepted call in another call's form. All but the calls named they do
--- properly.
+-- offer wrongly after a cancellation, three that answer an accepted call in another call's form, and one that takes every guard for none.
+-- All but the calls named they do properly.
 use mathlib.Core.Path.{◌≡◌, refl, sym, subst}
+use mathlib.Core.Logic.{⊎_elim}
+use mathlib.Core.List.Memᴰ
 use mathlib.Core.List.{List, [], ◌∷◌, flatten}
 use mathlib.Core.Bool.{Bool, true, false, ◌&&◌}
 use Prim.Native.Nat.{ℕ, suc, ◌+◌, ◌≤◌, ◌<◌}
 use native.Mathlib.Omega.{arith}
-use lib.Dec.{lit<, lit≤, eqb, ltb}
+use lib.Dec.{lit<, lit≤, leb, eqb, ltb}
 use lib.ListN.{length}
 use Rattle.units.specs.declared.Request.{Request}
-use Rattle.units.specs.Limits.{list_size}
+use Rattle.units.specs.Limits.{most_guard, list_size}
 use Rattle.units.specs.Lists.{member, sum, count_from, equal, rising, select}
 use Rattle.units.specs.Search.{first_from, all_from, any_below}
 use Rattle.timeline.specs.Events.{insert_rising, later, passed, row_at}
@@ -17,7 +19,7 @@ use Rattle.path_search.specs.Paths.{reaches, lowest, fewest, route, goes_on}
 use Rattle.choice.specs.Earliest.{can_start, earliest}
 use Rattle.listing.specs.Ranges.{Range, ranges_from, ranges}
 use Rattle.listing.specs.Right.{Apart}
-use Rattle.rules.specs.Plain.{empty, terms}
+use Rattle.rules.specs.Plain.{Booking, empty, terms}
 use Rattle.rules.specs.Calls.{Ask, book, offer, list, cancel, move_clock, show, Call, set_up, set_up_with, ask, Answer, done, starts, lists, shows, refused, refuse, checked, best, every, put_in, on_done, on_start}
 use Rattle.plain_book.specs.Bookings as bookings
 use Rattle.rules.specs.Tables.{Tables, sized, tables, sound_with, sound}
@@ -28,6 +30,7 @@ use Rattle.histories.specs.Demands.{Moment, now, plain}
 use Rattle.demands.specs.Demands.{Desk, Demand1, Demand2, Demand3, Passes}
 use Rattle.demands.specs.Listing.{EveryStart}
 use Rattle.demands.specs.Cancelling.{StartsBy, CancellingHarmless}
+use Rattle.demands.specs.Guarding.{KeepsApart}
 use Rattle.demands.specs.Examples.{start_at, session_links, request}
 use Rattle.rules.proofs.Checks.{starts≢refuse}
 
@@ -246,3 +249,32 @@ cancel_passes = refl
 pub not_mute_cancelling : ¬ Demand1 (desk_of mute_cancelling)
 unfolding kinds.outcome kinds.answer_on kinds.answer checked member sum sound sound_with tables later insert_rising flatten count_from bookings.by_number bookings.insert_by_number goes_on rising equal all_from any_below select
 not_mute_cancelling d = shows≢done (d.in_form session_links first_stands (ask (cancel 7)) cancel_passes)
+
+-- 11. takes every guard that is in range for none
+abbrev unguarded : Desk
+unguarded links t (set_up_with guard) = elim (leb guard most_guard) [ true ↦ outcome links t (set_up 0) | false ↦ outcome links t (set_up guard) ]
+unguarded links t (ask a) = outcome links t (ask a)
+
+-- set up with a guard of 2 it books link 2 full for minutes 0 to 9, and then from minute 10 on
+abbrev behind_first : Request
+behind_first = request 0 2 4 10 10 10
+
+abbrev too_close : Moment bandwidth_desk unguarded session_links
+too_close = record { before = fresh; start = 2; accepted = set_up_done; calls = ask (book 7 first) ∷ ask (book 9 behind_first) ∷ [] }
+
+pub not_unguarded : ¬ Demand3 unguarded
+unfolding now plain left counted kinds.outcome kinds.answer_on kinds.answer checked best member sum earliest can_start route fewest lowest reaches first_from all_from any_below row_at passed sound sound_with tables later insert_rising flatten count_from bookings.by_number bookings.insert_by_number goes_on rising equal
+not_unguarded d =
+    let s = (d.counts session_links too_close).as_kept 2 10 (lit< tt) (lit≤ tt) in
+    let kept_0 : ◌≡◌ {A = ℕ} 0 s.0 = s.1 in
+    let taken_8_of_4 : s.0 + 8 ≡ 4 = s.2 in
+    omega arith
+
+pub not_unguarded_apart : ¬ KeepsApart unguarded
+unfolding plain left counted kinds.outcome kinds.answer_on kinds.answer checked best member sum earliest can_start route fewest lowest reaches first_from all_from any_below row_at passed sound sound_with tables later insert_rising flatten count_from bookings.by_number bookings.insert_by_number goes_on rising equal
+not_unguarded_apart d =
+    let apart = d session_links too_close (booked 7 0) (booked 9 10) (Memᴰ.tail (Memᴰ.head refl)) (Memᴰ.head refl) (λ e. let z : ◌≡◌ {A = ℕ} 7 9 = e in omega arith) 2 (Memᴰ.head refl) (Memᴰ.head refl) (lit< tt) in
+    ⊎_elim (λ (h : 12 ≤ 10). omega arith) (λ (h : 22 ≤ 0). omega arith) apart
+  where
+    booked : ℕ → ℕ → Booking
+    booked number start = record { number = number; terms = terms first; grant = record { start = start; path = 2 ∷ [] } }

@@ -1,4 +1,5 @@
 pub mod Demands
 pub mod Listing
 pub mod Cancelling
+pub mod Guarding
 pub mod Examples

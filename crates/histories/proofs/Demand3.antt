@@ -26,7 +26,7 @@ module _ (K : Kind) (lawful : Lawful K) where
     starts : lawful.Started links × lawful.Obeys links (K.empty h.start) × ((outcome K links h.before (set_up_with h.start)).tables ≡ K.tables links (K.empty h.start))
     starts = lawful.set_up_starts links h.before h.start h.accepted
 
-    followed : (now K (outcome K) h ≡ K.tables links (plain K (outcome K) h)) × lawful.Obeys links (plain K (outcome K) h)
+    pub followed : (now K (outcome K) h ≡ K.tables links (plain K (outcome K) h)) × lawful.Obeys links (plain K (outcome K) h)
     unfolding now plain
     followed = follows links starts.0 h.calls (outcome K links h.before (set_up_with h.start)).tables (K.empty h.start) starts.2 starts.1
 

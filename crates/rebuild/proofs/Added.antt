@@ -31,6 +31,7 @@ use Rattle.free_table.proofs.Tables.{table_with_span}
 use Rattle.free_table.proofs.Taken.{less_span_table}
 use Rattle.free_table.proofs.SpanCheck.{enough_span_early, enough_span_table}
 use Rattle.path_search.specs.Paths.{Graph, Leads, PathRight}
+use Rattle.path_search.proofs.Paths.{path_inside, path_distinct}
 use Rattle.book.specs.declared.Booking.{Booking as Place}
 use Rattle.rules.specs.Plain.{Booking, Plain, until, uses, times, taken, capacity, graph, free}
 use Rattle.rules.specs.Calls.{put_in}
@@ -40,23 +41,6 @@ use Rattle.rebuild.specs.Rebuilding.{place_path, less_path, enough_path, PlaceRi
 use Rattle.rebuild.proofs.Along.{link_below}
 use Rattle.rules.specs.Desk.{NotOversold}
 use Rattle.rules.proofs.Uses.{all_times, uses_most, uses_within, taken_put_in, free_put_in, taken_past, free_changes}
-
--- ---- the links of a right path are on the list, and differ, since two equal links would end at one node twice
-
-distinct_map : (f : ℕ → ℕ) (xs : List ℕ) → Distinct (map f xs) → Distinct xs
-distinct_map f [] d = tt
-distinct_map f (x ∷ xs) d = ((λ i. d.0 (Memᴰ.map f i)), distinct_map f xs d.1)
-
-leads_inside : (g : Graph) (v w : ℕ) (path : List ℕ) → Leads g v w path → All (λ l. l < g.count) path
-leads_inside g v w [] h = tt
-leads_inside g v w (l ∷ ls) h = (h.0, leads_inside g (g.to l) w ls h.2)
-
-module _ (g : Graph) (path : List ℕ) (r : PathRight g path) where
-  pub path_inside : All (λ l. l < g.count) path
-  path_inside = leads_inside g r.from r.to path r.leads
-
-  pub path_distinct : Distinct path
-  path_distinct = distinct_map g.to path r.none_twice.1
 
 -- ---- taking along a path, on figures
 

@@ -1,19 +1,21 @@
 -- Answers of different kinds differ; the laws of checks, for these answers.
 use mathlib.Core.Path.{◌≡◌, ap}
 use mathlib.Core.List.{List}
-use mathlib.Core.Bool.{true, ◌&&◌}
+use mathlib.Core.Bool.{true, false, ◌&&◌}
 use Prim.Native.Nat.{ℕ}
 use native.Mathlib.Omega.{arith}
 use lib.Dec.{leb}
 use Rattle.units.specs.declared.Link.{Link}
 use Rattle.units.specs.declared.Request.{Request}
+use Rattle.units.specs.Limits.{most_guard}
 use Rattle.units.specs.Refusals as refusals
 use Rattle.choice.specs.Choice.{Grant}
 use Rattle.listing.specs.Ranges.{Range}
 use Rattle.histories.proofs.Checks as laws
 pub use Rattle.histories.proofs.Checks.{Passed, checked_elim, passed_answer, passed_all}
 use Rattle.rules.specs.Plain.{Plain, low}
-use Rattle.rules.specs.Calls.{book, stands, number_ok, request_ok, own_checks, first_refusal, Answer, done, starts, lists, shows, refused, refuse, Check, checked}
+use Rattle.rules.specs.Calls.{book, set_up, stands, number_ok, request_ok, own_checks, first_refusal, Answer, done, starts, lists, shows, refused, refuse, Check, checked}
+use Rattle.rules.specs.Tables.{Tables, sized, table_checks}
 
 pub done≢refuse : {X : Type 0} {k : ℕ} → done ≡ refuse k → X
 done≢refuse e = let z : ◌≡◌ {A = ℕ} 0 1 = cc in absurd (omega arith)
@@ -45,3 +47,8 @@ pub six_before_seven : (links : List Link) (p : Plain) (n : ℕ) (r : Request) �
     → first_refusal (own_checks links p (book n r)) ≡ refusals.number_stands
 unfolding checked
 six_before_seven links p n r fields window e = rw (fields, window, e)
+
+-- document 02's 'refuses with 4, at set-up between 1 and 2, a guard above 15': on tables of the right sizes it decides, whatever the links
+pub four_before_two : (links : List Link) (t : Tables) (guard : ℕ) → sized links t ≡ true → leb guard most_guard ≡ false → first_refusal (table_checks links t (set_up guard)) ≡ refusals.bad_field
+unfolding checked
+four_before_two links t guard size long = rw (size, long)
