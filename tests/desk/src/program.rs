@@ -264,7 +264,7 @@ pub fn told(seed: u64, style: Style, orders: u64) -> (Vec<u8>, String) {
 
 /// How many bytes stand before the orders of a session.
 pub fn first_bytes(input: &[u8]) -> usize {
-    1 + LINK_BYTES * input[0] as usize
+    2 + LINK_BYTES * input[0] as usize
 }
 
 /// Whether the lines of a block's orders are more than the program holds.

@@ -54,7 +54,7 @@ fn no_offer_is_later_after_a_cancellation() {
     for seed in SEED..SEED + HISTORIES {
         let (mut random, _seed) = (Random::new(seed), Seed(seed));
         let mut history = History::new(seed);
-        let mut held = fresh(&history.desk.links, &mut random);
+        let mut held = fresh(&history.desk, &mut random);
         for step in 0..STEPS {
             let links = history.desk.links.clone();
             let (call, answer) = history.step();

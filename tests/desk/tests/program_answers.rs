@@ -70,7 +70,9 @@ fn the_desk_is_answered_with_its_last_byte() {
     sent.is_silent();
     sent.send(1, 0);
     sent.is_silent();
-    sent.send(first_bytes(&input) - 2, 0);
+    sent.send(1, 0);
+    sent.is_silent();
+    sent.send(first_bytes(&input) - 3, 0);
     sent.is_silent();
     sent.send(1, 1);
     sent.is_silent();
@@ -171,6 +173,7 @@ fn refused(bytes: &[u8], refusal: u32) {
     assert_eq!(run.end().well(), format!("desk refused {refusal}\n"), "{bytes:?}");
 }
 
+/// The program waits for nothing behind such a count, not for the guard either.
 #[test]
 fn a_refused_count_ends_the_program() {
     for count in [0, 65, 255] {
@@ -184,13 +187,42 @@ fn a_refused_link_ends_the_program() {
     let same_ends = link_bytes(&Link { from: 1, to: 1, capacity: 10 });
     let mut more = link;
     more[7] = 1;
-    refused(&[&[2][..], &link, &same_ends].concat(), 2);
-    refused(&[&[2][..], &link, &more].concat(), 11);
+    refused(&[&[2, 0][..], &link, &same_ends].concat(), 2);
+    refused(&[&[2, 0][..], &link, &more].concat(), 11);
 
     // A bad link is refused only behind all links.
     let mut run = Run::piped();
-    run.send(&[&[2][..], &more].concat());
+    run.send(&[&[2, 0][..], &more].concat());
     run.is_silent();
     run.send(&link);
     assert_eq!(run.end().well(), "desk refused 11\n");
+}
+
+/// A guard that is too long is refused only behind all links, and after their records.
+#[test]
+fn a_refused_guard_ends_the_program() {
+    let link = link_bytes(&Link { from: 0, to: 1, capacity: 10 });
+    let mut more = link;
+    more[7] = 1;
+    for (last, refusal) in [(link, 4), (more, 11)] {
+        let mut run = Run::piped();
+        run.send(&[2, 16]);
+        run.is_silent();
+        run.send(&link);
+        run.is_silent();
+        run.send(&last);
+        assert_eq!(run.end().well(), format!("desk refused {refusal}\n"));
+    }
+}
+
+/// A file that ends behind its count has no guard.
+#[test]
+fn a_missing_guard_is_refused_at_the_end() {
+    for count in [1, 64] {
+        let mut run = Run::piped();
+        run.send(&[count]);
+        run.is_silent();
+        run.close();
+        assert_eq!(run.end().well(), "desk refused 12\n", "{count} links");
+    }
 }
