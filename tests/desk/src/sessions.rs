@@ -21,7 +21,8 @@ pub fn session(seed: u64) -> Vec<u8> {
         _ if fills(style) => random.within(70, 160),
         _ => random.within(0, 80),
     };
-    let mut bytes = orders_file(&mut random, style, orders);
+    let guard = guard(&mut random);
+    let mut bytes = orders_file(&mut random, style, guard, orders);
     if random.once_in(4) {
         let piece = order_bytes(&Call::Cancel(1));
         bytes.extend(&piece[..random.within(1, 15) as usize]);
@@ -34,13 +35,14 @@ pub fn long_session(seed: u64) -> Vec<u8> {
     let mut random = Random::new(seed);
     let style = style(&mut random);
     let orders = random.within(8_300, 9_500);
-    orders_file(&mut random, style, orders)
+    let guard = guard(&mut random);
+    orders_file(&mut random, style, guard, orders)
 }
 
-/// The bytes of a valid head and of so many orders, a few of them damaged, each suited to what the desk then holds.
-pub fn orders_file(random: &mut Random, style: Style, orders: u64) -> Vec<u8> {
-    let links = net(random, style);
-    let mut bytes = head_bytes(&links, guard(random));
+/// The bytes of a valid head with this guard and of so many orders, a few of them damaged, each suited to what the desk then
+/// holds.
+pub fn orders_file(random: &mut Random, style: Style, guard: u32, orders: u64) -> Vec<u8> {
+    let mut bytes = head_bytes(&net(random, style), guard);
     let (mut desk, _) = opening(&bytes).expect("a valid head");
     let mut piece = order_bytes(&Call::MoveClock(first_minute(random, style)));
     for _ in 0..orders {

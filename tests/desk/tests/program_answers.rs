@@ -1,6 +1,6 @@
 //! The program on a pipe that stays open: each line comes as soon as its bytes have come, and none before.
 
-use desk_tests::calls::{style, Style};
+use desk_tests::calls::{guard, style, Style};
 use desk_tests::lines::{link_bytes, output, ORDER_BYTES};
 use desk_tests::program::{first_bytes, same, told, Run};
 use desk_tests::sessions::orders_file;
@@ -51,8 +51,8 @@ fn an_order_alone_is_answered() {
     for seed in SEED..SEED + SESSIONS {
         let _seed = Seed(seed);
         let random = &mut Random::new(seed);
-        let style = style(random);
-        let input = orders_file(random, style, 30);
+        let (style, guard) = (style(random), guard(random));
+        let input = orders_file(random, style, guard, 30);
         let lines = output(&input);
         let mut sent = Sent::new(&input, &lines);
         sent.send(first_bytes(&input), 1);
@@ -135,8 +135,8 @@ fn pieces_of_any_size_are_answered() {
     for seed in SEED..SEED + SESSIONS {
         let _seed = Seed(seed);
         let random = &mut Random::new(seed);
-        let (style, orders) = (style(random), random.within(20, 200));
-        let input = orders_file(random, style, orders);
+        let (style, guard, orders) = (style(random), guard(random), random.within(20, 200));
+        let input = orders_file(random, style, guard, orders);
         let lines = output(&input);
         in_pieces_to(80, random, &input, &lines);
     }
