@@ -1,14 +1,16 @@
 /* The seven calls of the booking desk: setting up, booking, offering, listing, cancelling, moving the clock and showing.
  *
  * Link with libdesk.a, which `bash tools/build desk` writes to target/staticlib/.
- * A desk is a head and three tables, all of the caller, with the list of links that it was set up with. A list or table is
+ * A desk is a head and three tables, all of the caller, with the list of links and the guard that it was set up with. The
+ * guard is the time that switches need between bookings, in minutes: a booking holds its links from its start until its
+ * guarded end, which is start plus duration plus guard, and its number stands until the clock is there. A list or table is
  * a pointer and its count of elements; another count than the stated one is refused. Every call is answered, and after a
  * refusal head, tables and lent list hold what they held. Each call says its refusals, which are tried in this order:
  *   1   a table has another size than stated, or there is no link or more than 64
  *   13  the lent list has another size than stated
- *   2   a link has a node above 31, equal ends or a capacity out of range
  *   3   head and tables are not those of a desk with these links
- *   4   a field is out of range
+ *   4   a field is out of range; at a set-up, the guard is above 15
+ *   2   a link has a node above 31, equal ends or a capacity out of range
  *   5   the latest start is before the earliest minute that can be tried
  *   6   the number stands
  *   7   64 bookings stand
@@ -29,11 +31,12 @@ extern "C" {
 enum { GCR_LINKS = 64, GCR_PATH_LINKS = 31, GCR_EVENTS = 129, GCR_FREE_FIGURES = 8256, GCR_BOOK_FIGURES = 2304 };
 enum { GCR_LIST_FIGURES = 258 };
 
-/* The clock, the number of links and the number of standing bookings. */
+/* The clock, the number of links, the number of standing bookings, and the guard, which only a set-up changes. */
 struct gcr_head {
     uint32_t clock;
     uint32_t links;
     uint32_t bookings;
+    uint32_t guard;
 };
 
 /* A start with its path, `count` link numbers in travel order and zero past them; all zero beside a refusal number. */
@@ -56,9 +59,11 @@ struct gcr_shown {
     uint32_t free;
 };
 
-/* Sets a desk up at minute 0 with no bookings, whatever its tables held. Answers 0, or refuses 1 or 2. */
+/* Sets a desk up at minute 0 with no bookings and a guard of 0 to 15 minutes, whatever its tables held. Answers 0, or refuses
+ * 1, 4 or 2. */
 uint32_t gcr_set_up(struct gcr_head *head, const struct gcr_link *links, size_t link_count, uint32_t *events,
-                    size_t event_count, uint32_t *free, size_t free_count, uint32_t *book, size_t book_count);
+                    size_t event_count, uint32_t *free, size_t free_count, uint32_t *book, size_t book_count,
+                    uint32_t guard);
 
 /* Books the earliest start of the request's window. Refuses 1, 3, 4, 5, 6, 7 or 8. An open latest start is
  * 1,000,000,000. */
@@ -84,12 +89,12 @@ uint32_t gcr_cancel(struct gcr_head *head, const struct gcr_link *links, size_t 
                     size_t event_count, uint32_t *free, size_t free_count, uint32_t *book, size_t book_count,
                     uint32_t number);
 
-/* Moves the clock on and drops the bookings that have ended. Answers 0, or refuses 1, 3, 4 or 10. */
+/* Moves the clock on and drops the bookings whose guarded end has come. Answers 0, or refuses 1, 3, 4 or 10. */
 uint32_t gcr_move_clock(struct gcr_head *head, const struct gcr_link *links, size_t link_count, uint32_t *events,
                         size_t event_count, uint32_t *free, size_t free_count, uint32_t *book, size_t book_count,
                         uint32_t minute);
 
-/* The bandwidth that a link has free in a minute. Refuses 1, 3 or 4. */
+/* The bandwidth that a link has free in a minute from the clock to 1,000,525,615. Refuses 1, 3 or 4. */
 struct gcr_shown gcr_show(const struct gcr_head *head, const struct gcr_link *links, size_t link_count,
                           const uint32_t *events, size_t event_count, const uint32_t *free, size_t free_count,
                           const uint32_t *book, size_t book_count, uint32_t link, uint32_t minute);

@@ -1,5 +1,5 @@
 /* Reads the links and orders of a file through the library, as the station's daemon does, and prints what each record
- * holds. A first byte counts the links. */
+ * holds. A first byte counts the links, and the second is the guard. */
 #include <stdio.h>
 
 #include "gcr_record.h"
@@ -46,6 +46,7 @@ int main(int count, char **words)
     }
     uint8_t piece[16];
     int links = getc(file);
+    printf("guard %d\n", getc(file));
     for (int i = 0; i < links; i++) {
         size_t got = fread(piece, 1, 8, file);
         struct gcr_link_record record = gcr_read_link(piece, got);

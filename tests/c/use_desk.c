@@ -1,5 +1,5 @@
 /* Runs document 01's session on a desk, as the station's daemon does, with some figures shown and starts listed on the way,
- * and prints what each call answered. */
+ * then some calls under a guard of two minutes, and prints what each call answered. */
 #include <stdio.h>
 
 #include "gcr_desk.h"
@@ -100,19 +100,25 @@ static void list_starts(struct gcr_request asked, size_t figures)
 
 static void print_head(void)
 {
-    printf("  head clock %u links %u bookings %u\n", head.clock, head.links, head.bookings);
+    printf("  head clock %u links %u bookings %u guard %u\n", head.clock, head.links, head.bookings, head.guard);
 }
 
-int main(void)
+static void refused_set_ups(void)
 {
     static const struct gcr_link looped = {3, 3, 10}, many[GCR_LINKS + 1];
-    printf("no link refused %u\n", gcr_set_up(&head, links, 0, TABLES));
-    printf("65 links refused %u\n", gcr_set_up(&head, many, GCR_LINKS + 1, TABLES));
+    printf("no link refused %u\n", gcr_set_up(&head, links, 0, TABLES, 0));
+    printf("65 links, guard 16 refused %u\n", gcr_set_up(&head, many, GCR_LINKS + 1, TABLES, 16));
     printf("a short table refused %u\n", gcr_set_up(&head, LINKS, events, GCR_EVENTS - 1, free_figures,
-                                                    GCR_FREE_FIGURES, book, GCR_BOOK_FIGURES));
-    printf("equal ends refused %u\n", gcr_set_up(&head, &looped, 1, TABLES));
+                                                    GCR_FREE_FIGURES, book, GCR_BOOK_FIGURES, 0));
+    printf("guard 16 refused %u\n", gcr_set_up(&head, LINKS, TABLES, 16));
+    printf("equal ends, guard 16 refused %u\n", gcr_set_up(&head, &looped, 1, TABLES, 16));
+    printf("equal ends, guard 15 refused %u\n", gcr_set_up(&head, &looped, 1, TABLES, 15));
     offer_one(0, request(4, 10, 0, OPEN));
-    if (gcr_set_up(&head, LINKS, TABLES) != 0)
+}
+
+static int session(void)
+{
+    if (gcr_set_up(&head, LINKS, TABLES, 0) != 0)
         return 1;
     printf("desk links %u\n", head.links);
     book_one(1, 7, request(4, 10, 0, OPEN));
@@ -147,4 +153,35 @@ int main(void)
     list_starts(request(4, 3, 0, OPEN), GCR_LIST_FIGURES - 1);
     list_starts(request(4, 3, 0, OPEN), GCR_LIST_FIGURES);
     return 0;
+}
+
+/* Links 0 and 1 are sold full for minutes 0 to 9; the next booking starts at 12, and the first stands until then. */
+static int guarded(void)
+{
+    if (gcr_set_up(&head, LINKS, TABLES, 2) != 0)
+        return 1;
+    printf("desk links %u guard %u\n", head.links, head.guard);
+    book_one(1, 1, request(10, 10, 0, OPEN));
+    show(0, 11);
+    show(0, 12);
+    book_one(2, 2, request(10, 5, 0, 11));
+    book_one(3, 2, request(10, 5, 0, OPEN));
+    list_starts(request(10, 5, 0, OPEN), GCR_LIST_FIGURES);
+    move_clock(4, 10);
+    print_head();
+    book_one(5, 1, request(10, 1, 0, OPEN));
+    move_clock(6, 12);
+    print_head();
+    cancel_one(7, 1);
+    show(0, 1000525615);
+    show(0, 1000525616);
+    head.guard = 3;
+    offer_one(8, request(4, 3, 0, OPEN));
+    return 0;
+}
+
+int main(void)
+{
+    refused_set_ups();
+    return session() != 0 || guarded() != 0;
 }

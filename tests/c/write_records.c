@@ -52,7 +52,8 @@ static void try_link(const char *what, size_t count, struct gcr_link link)
 
 static void session(FILE *file)
 {
-    putc(3, file);
+    putc(3, file); /* links */
+    putc(0, file); /* minutes of guard */
     write_link(file, 0, 1, 10);
     write_link(file, 1, 2, 10);
     write_link(file, 0, 2, 4);
@@ -92,10 +93,11 @@ static void refusals(void)
 static void copy(FILE *from, FILE *file)
 {
     uint8_t piece[16];
-    int links = getc(from);
-    if (links == EOF)
+    int links = getc(from), guard = getc(from);
+    if (guard == EOF)
         return;
     putc(links, file);
+    putc(guard, file);
     for (int i = 0; i < links; i++) {
         size_t got = fread(piece, 1, 8, from);
         struct gcr_link_record record = gcr_read_link(piece, got);

@@ -4,7 +4,7 @@
 
 use desk_tests::{Head, Link, Request};
 use desk_tests::{BOOKINGS, EVENTS, LINKS, LIST_FIGURES, NODES, PATH_LINKS, PLACE, ROW};
-use desk_tests::{MAX_BANDWIDTH, MAX_CAPACITY, MAX_DURATION, MAX_END, MAX_MINUTE, MAX_NUMBER};
+use desk_tests::{MAX_BANDWIDTH, MAX_CAPACITY, MAX_DURATION, MAX_GUARD, MAX_MINUTE, MAX_NUMBER, MAX_SHOWN};
 
 // The fields of a place of the book; the path follows them.
 const NUMBER: usize = 0;
@@ -32,13 +32,16 @@ pub struct Start {
     pub path: Path,
 }
 
-/// Refuses 1, 2.
-pub fn set_up(links: &[Link], tables: &mut Tables) -> Result<(), u32> {
+/// Refuses 1, 4, 2.
+pub fn set_up(links: &[Link], tables: &mut Tables, guard: u32) -> Result<(), u32> {
     check_sizes(links, tables)?;
+    if guard > MAX_GUARD {
+        return Err(4);
+    }
     if !links.iter().all(valid_link) {
         return Err(2);
     }
-    *tables.head = Head { clock: 0, links: links.len() as u32, bookings: 0 };
+    *tables.head = Head { clock: 0, links: links.len() as u32, bookings: 0, guard };
     tables.book.fill(0);
     write_figures(links, tables);
     Ok(())
@@ -57,7 +60,7 @@ pub fn book(links: &[Link], tables: &mut Tables, number: u32, request: &Request)
     }
     let start = choose(links, tables, events, request).ok_or(8u32)?;
     let (first, events) = insert_event(tables, events, start.minute);
-    let (end, _) = insert_event(tables, events, start.minute + request.duration);
+    let (end, _) = insert_event(tables, events, start.minute + request.duration + tables.head.guard);
     for row in tables.free[first * ROW..end * ROW].chunks_exact_mut(ROW) {
         for &link in &start.path[..start.count as usize] {
             row[link as usize] -= request.bandwidth;
@@ -113,7 +116,7 @@ pub fn move_clock(links: &[Link], tables: &mut Tables, minute: u32) -> Result<()
     let mut kept = 0;
     for place in 0..used {
         let figures = place * PLACE..(place + 1) * PLACE;
-        if tables.book[figures.start + START] + tables.book[figures.start + DURATION] > minute {
+        if guarded_end(&tables.book[figures.clone()], tables.head.guard) > minute {
             tables.book.copy_within(figures, kept * PLACE);
             kept += 1;
         }
@@ -128,7 +131,7 @@ pub fn move_clock(links: &[Link], tables: &mut Tables, minute: u32) -> Result<()
 /// Refuses 1, 3, 4.
 pub fn show(links: &[Link], tables: &Tables, link: u32, minute: u32) -> Result<u32, u32> {
     let events = check_tables(links, tables)?;
-    if link as usize >= links.len() || minute < tables.head.clock || minute > MAX_END {
+    if link as usize >= links.len() || minute < tables.head.clock || minute > MAX_SHOWN {
         return Err(4);
     }
     let row = tables.events[..events].partition_point(|&event| event <= minute) - 1;
@@ -162,15 +165,16 @@ pub fn check_listing(links: &[Link], tables: &Tables, request: &Request, list: &
 
 /// The number of events, if the tables are sound.
 fn sound(links: &[Link], tables: &Tables) -> Option<usize> {
-    let &Head { clock, links: count, bookings } = &*tables.head;
-    let head_good = clock <= MAX_MINUTE && count as usize == links.len() && bookings as usize <= BOOKINGS;
-    if !head_good || !links.iter().all(valid_link) {
+    let &Head { clock, links: count, bookings, guard } = &*tables.head;
+    let in_range = clock <= MAX_MINUTE && guard <= MAX_GUARD;
+    let counts_good = count as usize == links.len() && bookings as usize <= BOOKINGS;
+    if !in_range || !counts_good || !links.iter().all(valid_link) {
         return None;
     }
     let (used, unused) = tables.book.split_at(bookings as usize * PLACE);
     let mut last = 0;
     for place in used.chunks_exact(PLACE) {
-        if place[NUMBER] <= last || !valid_booking(links, clock, place) {
+        if place[NUMBER] <= last || !valid_booking(links, clock, guard, place) {
             return None;
         }
         last = place[NUMBER];
@@ -179,8 +183,8 @@ fn sound(links: &[Link], tables: &Tables) -> Option<usize> {
         return None;
     }
     let (mut events, mut free) = ([0; EVENTS], [0; EVENTS * ROW]);
-    let rows = make_events(clock, used, &mut events);
-    make_free(links, used, &events[..rows], &mut free)?;
+    let rows = make_events(clock, guard, used, &mut events);
+    make_free(links, guard, used, &events[..rows], &mut free)?;
     let figures = rows * ROW;
     let same = tables.events == events && tables.free[..figures] == free[..figures];
     (same && all_zero(&tables.free[figures..])).then_some(rows)
@@ -202,14 +206,14 @@ fn valid_number(number: u32) -> bool {
 }
 
 /// Whether a used place has its figures in range, stands at the clock and has a path with zeros behind it.
-fn valid_booking(links: &[Link], clock: u32, place: &[u32]) -> bool {
+fn valid_booking(links: &[Link], clock: u32, guard: u32, place: &[u32]) -> bool {
     let count = place[COUNT] as usize;
     let in_range = valid_number(place[NUMBER])
         && place[START] <= MAX_MINUTE
         && (1..=MAX_DURATION).contains(&place[DURATION])
         && (1..=MAX_BANDWIDTH).contains(&place[BANDWIDTH])
         && (1..=PATH_LINKS).contains(&count);
-    if !in_range || place[START] + place[DURATION] <= clock {
+    if !in_range || guarded_end(place, guard) <= clock {
         return false;
     }
     let (path, rest) = place[PATH..].split_at(count);
@@ -226,12 +230,17 @@ fn valid_booking(links: &[Link], clock: u32, place: &[u32]) -> bool {
     all_zero(rest)
 }
 
-/// Writes the events that clock and bookings give, and answers their number.
-fn make_events(clock: u32, used: &[u32], events: &mut [u32; EVENTS]) -> usize {
+/// The minute from which on the booking of a place holds nothing and no longer stands.
+fn guarded_end(place: &[u32], guard: u32) -> u32 {
+    place[START] + place[DURATION] + guard
+}
+
+/// Writes the events that clock, guard and bookings give, and answers their number.
+fn make_events(clock: u32, guard: u32, used: &[u32], events: &mut [u32; EVENTS]) -> usize {
     events[0] = clock;
     let mut count = 1;
     for place in used.chunks_exact(PLACE) {
-        for minute in [place[START], place[START] + place[DURATION]] {
+        for minute in [place[START], guarded_end(place, guard)] {
             if minute > clock {
                 events[count] = minute;
                 count += 1;
@@ -250,8 +259,8 @@ fn make_events(clock: u32, used: &[u32], events: &mut [u32; EVENTS]) -> usize {
     rows
 }
 
-/// Writes the rows of free figures that links and bookings give; none if a link is oversold.
-fn make_free(links: &[Link], used: &[u32], events: &[u32], free: &mut [u32]) -> Option<()> {
+/// Writes the rows of free figures that links, guard and bookings give; none if a link is oversold.
+fn make_free(links: &[Link], guard: u32, used: &[u32], events: &[u32], free: &mut [u32]) -> Option<()> {
     let mut full = [0; ROW];
     links.iter().zip(&mut full).for_each(|(link, figure)| *figure = link.capacity);
     free[..events.len() * ROW].chunks_exact_mut(ROW).for_each(|row| row.copy_from_slice(&full));
@@ -259,7 +268,7 @@ fn make_free(links: &[Link], used: &[u32], events: &[u32], free: &mut [u32]) -> 
     for place in used.chunks_exact(PLACE) {
         let (bandwidth, path) = (place[BANDWIDTH], &place[PATH..][..place[COUNT] as usize]);
         let first = events.partition_point(|&event| event < place[START]);
-        let end = events.partition_point(|&event| event < place[START] + place[DURATION]);
+        let end = events.partition_point(|&event| event < guarded_end(place, guard));
         for row in free[first * ROW..end * ROW].chunks_exact_mut(ROW) {
             for &link in path {
                 let figure = &mut row[link as usize];
@@ -275,9 +284,10 @@ fn make_free(links: &[Link], used: &[u32], events: &[u32], free: &mut [u32]) -> 
 fn write_figures(links: &[Link], tables: &mut Tables) {
     let used = &tables.book[..tables.head.bookings as usize * PLACE];
     let mut events = [0; EVENTS];
-    let rows = make_events(tables.head.clock, used, &mut events);
+    let &Head { clock, guard, .. } = &*tables.head;
+    let rows = make_events(clock, guard, used, &mut events);
     tables.events.copy_from_slice(&events);
-    make_free(links, used, &events[..rows], tables.free).expect("no link is oversold");
+    make_free(links, guard, used, &events[..rows], tables.free).expect("no link is oversold");
     tables.free[rows * ROW..].fill(0);
 }
 
@@ -335,7 +345,7 @@ fn choose(links: &[Link], tables: &Tables, events: usize, request: &Request) -> 
         if minute > request.latest {
             return None;
         }
-        let end = minute + request.duration;
+        let end = minute + request.duration + tables.head.guard;
         let span = events[row + 1..].iter().take_while(|&&event| event < end).count();
         let usable = enough[row..=row + span].iter().fold(u64::MAX, |usable, set| usable & set);
         if usable == without_path {
@@ -364,15 +374,16 @@ fn enough(links: &[Link], tables: &Tables, first: usize, rows: usize, bandwidth:
 /// tries the events, and where one is, the minutes at which the span's end meets an event.
 fn list_ranges(links: &[Link], tables: &Tables, events: usize, request: &Request, list: &mut [u32]) -> u32 {
     let events = &tables.events[..events];
-    let &Request { from, to, bandwidth, duration, latest, .. } = request;
+    let &Request { from, to, bandwidth, latest, .. } = request;
+    let span = request.duration + tables.head.guard;
     let low = request.earliest.max(tables.head.clock);
     let first = events.partition_point(|&event| event <= low) - 1;
     let enough = enough(links, tables, first, events.len(), bandwidth);
     let mut searched = (0, false);
     let mut possible = |minute: u32| {
         let row = events.partition_point(|&event| event <= minute) - 1;
-        let span = events[row + 1..].iter().take_while(|&&event| event < minute + duration).count();
-        let usable = enough[row..=row + span].iter().fold(u64::MAX, |usable, set| usable & set);
+        let later = events[row + 1..].iter().take_while(|&&event| event < minute + span).count();
+        let usable = enough[row..=row + later].iter().fold(u64::MAX, |usable, set| usable & set);
         if usable != searched.0 {
             searched = (usable, rounds(links, usable, from, to).is_some());
         }
@@ -391,8 +402,8 @@ fn list_ranges(links: &[Link], tables: &Tables, events: usize, request: &Request
         if !found {
             break;
         }
-        let ends = events.iter().filter(|&&event| start + duration <= event && event < latest + duration);
-        let stop = ends.map(|&event| event + 1 - duration).find(|&next| !possible(next));
+        let ends = events.iter().filter(|&&event| start + span <= event && event < latest + span);
+        let stop = ends.map(|&event| event + 1 - span).find(|&next| !possible(next));
         let end = stop.unwrap_or(latest + 1);
         list[2 * count..][..2].copy_from_slice(&[start, end - 1]);
         count += 1;

@@ -91,7 +91,7 @@ fn longest_listing(in_turn: bool) -> (Desk, Request) {
     let hop = |from: u32| Link { from, to: from + 1, capacity: MAX_CAPACITY };
     let links: Vec<Link> = (0..spares).map(spare).chain((0..last).rev().map(hop)).collect();
     let line: Vec<u32> = (spares..LINKS as u32).rev().collect();
-    let mut desk = Desk::set_up(&links).expect("valid links");
+    let mut desk = Desk::set_up(&links, 0).expect("valid links");
     for number in 1..=others {
         let path = if in_turn && number <= spares { vec![number - 1] } else { line.clone() };
         desk.bookings.push(Booking { number, start: duration + number, duration: others, bandwidth, path });
@@ -115,7 +115,7 @@ fn typical_listing() -> (Desk, Request) {
         [Link { from, to, capacity }, Link { from: to, to: from, capacity }]
     };
     let links: Vec<Link> = (0..8).flat_map(ring).collect();
-    let mut desk = Desk::set_up(&links).expect("valid links");
+    let mut desk = Desk::set_up(&links, 0).expect("valid links");
     let request = Request { from: 0, to: 3, bandwidth: 600, duration: 120, earliest: 0, latest: 1_440 };
     for number in 1..=24 {
         let (from, to) = (number % 8, (number + 1 + number % 3) % 8);
@@ -137,7 +137,7 @@ fn main() {
     let no_way = Request { from: path_end, to: 0, ..request };
     let mut room = desk.clone();
     room.cancel(last).expect("it stands");
-    time("set up", &desk, |t| exported::set_up(links, t).is_ok(), |t| fast::set_up(links, &mut lent(t)).is_ok());
+    time("set up", &desk, |t| exported::set_up(links, t, 0).is_ok(), |t| fast::set_up(links, &mut lent(t), 0).is_ok());
     time(
         "book, the 64th",
         &room,

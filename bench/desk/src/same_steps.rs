@@ -16,7 +16,8 @@ pub fn list(links: &[Link], tables: &Tables, request: &Request, list: &mut [u32]
         (from[place], to[place]) = (link.from, link.to);
     }
     let ends = Ends { from: &from[..links.len()], to: &to[..links.len()] };
-    let asked = Asked { ends, events: tables.events, free: tables.free, request };
+    let span = request.duration + tables.head.guard;
+    let asked = Asked { ends, events: tables.events, free: tables.free, request, span };
     Ok(asked.list_ranges(request.earliest.max(tables.head.clock), list))
 }
 
@@ -26,6 +27,8 @@ struct Asked<'a> {
     events: &'a [u32],
     free: &'a [u32],
     request: &'a Request,
+    /// The minutes for which a link has to last, the guard counted.
+    span: u32,
 }
 
 impl Asked<'_> {
@@ -59,14 +62,14 @@ impl Asked<'_> {
     /// The first minute after a possible start that is not possible, or the one after the latest. Minutes are tried where
     /// the end of the span meets an event.
     fn run_end(&self, start: u32) -> u32 {
-        let &Request { duration, latest, .. } = self.request;
-        let mut end = start + duration;
+        let (latest, span) = (self.request.latest, self.span);
+        let mut end = start + span;
         for &event in self.events {
-            if latest + duration <= event {
+            if latest + span <= event {
                 break;
             }
             if end <= event {
-                let next = event + 1 - duration;
+                let next = event + 1 - span;
                 if !self.possible(next) {
                     return next;
                 }
@@ -78,8 +81,8 @@ impl Asked<'_> {
 
     /// Whether a start has a path; the whole path is made, as the proved listing makes it.
     fn possible(&self, start: u32) -> bool {
-        let &Request { from, to, bandwidth, duration, .. } = self.request;
-        let (first, last) = (self.row_at(start), self.row_at(start + duration - 1));
+        let &Request { from, to, bandwidth, .. } = self.request;
+        let (first, last) = (self.row_at(start), self.row_at(start + self.span - 1));
         let usable = lasting(&self.free[first * LINKS..(last + 1) * LINKS], bandwidth);
         let distance = rounds(self.ends, &usable, to);
         black_box(walk(self.ends, &usable, &distance, from, to)).is_some()

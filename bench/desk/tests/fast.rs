@@ -29,7 +29,7 @@ fn run(links: &[Link], tables: &mut Tables, call: &Call) -> Answer {
     let Tables { head, events, free, book } = tables;
     let lent = &mut fast::Tables { head, events, free, book };
     let answer = match call {
-        Call::SetUp(links) => fast::set_up(links, lent).map(|()| Answer::SetUp),
+        Call::SetUp { links, guard } => fast::set_up(links, lent, *guard).map(|()| Answer::SetUp),
         Call::Book(number, request) => {
             fast::book(links, lent, *number, request).map(|start| Answer::Booked(answered(start)))
         }
@@ -47,12 +47,17 @@ fn run(links: &[Link], tables: &mut Tables, call: &Call) -> Answer {
     answer.unwrap_or_else(Answer::Refused)
 }
 
+/// The set-up that a desk began with.
+fn set_up(desk: &Desk) -> Call {
+    Call::SetUp { links: desk.links.clone(), guard: desk.guard }
+}
+
 #[test]
 fn cases_by_hand() {
     for case in cases() {
-        let mut desk = Desk::set_up(&case.links).expect("a valid net");
+        let mut desk = Desk::set_up(&case.links, case.guard).expect("a valid net and guard");
         let mut tables = Tables::filled_with(u32::MAX);
-        assert_eq!(run(&[], &mut tables, &Call::SetUp(case.links)), Answer::SetUp);
+        assert_eq!(run(&[], &mut tables, &set_up(&desk)), Answer::SetUp);
         for (place, (call, answer)) in case.steps.iter().enumerate() {
             let links = desk.links.clone();
             desk.answer(call);
@@ -67,7 +72,7 @@ fn histories() {
     for seed in SEED..SEED + 200 {
         let mut history = History::new(seed);
         let mut tables = Tables::filled_with(seed as u32);
-        assert_eq!(run(&[], &mut tables, &Call::SetUp(history.desk.links.clone())), Answer::SetUp, "seed {seed:#x}");
+        assert_eq!(run(&[], &mut tables, &set_up(&history.desk)), Answer::SetUp, "seed {seed:#x}");
         for step in 0..500 {
             let links = history.desk.links.clone();
             let (call, answer) = history.step();

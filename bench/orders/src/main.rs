@@ -1,5 +1,5 @@
-//! Orders per second of the proved program on files of 100,000 mixed orders, beside the unverified desk as a program
-//! (`fast_orders`), turn by turn in one run. Both must write the same lines.
+//! Orders per second of the proved program on files of 100,000 mixed orders, under no guard, beside the unverified desk as a
+//! program (`fast_orders`), turn by turn in one run. Both must write the same lines.
 
 use std::fs::{self, File};
 use std::path::{Path, PathBuf};
@@ -32,7 +32,7 @@ fn main() {
     fs::create_dir(&folder).expect("a folder");
     let (input, ours, theirs) = (folder.join("orders"), folder.join("proved"), folder.join("plain"));
     for (what, style) in [("small desk", Style::Dense), ("wide desk", Style::Wide), ("full book", Style::Spread)] {
-        fs::write(&input, orders_file(&mut Random::new(1), style, ORDERS)).expect("the orders");
+        fs::write(&input, orders_file(&mut Random::new(1), style, 0, ORDERS)).expect("the orders");
         let (mut best_ours, mut best_plain) = (f64::MAX, f64::MAX);
         for _ in 0..TURNS {
             best_ours = best_ours.min(seconds(&proved, &input, &ours));

@@ -1,4 +1,4 @@
--- Two sample files more, as bytes and as the text that each prints. A record is written as the hexadecimal digits of its bytes.
+-- Three sample files more, as bytes and as the text that each prints. A record is written as the hexadecimal digits of its bytes.
 use Rattle.std.specs.Prelude.{◌≡◌, List, [], ◌∷◌, ◌++◌, ℕ, codes}
 use Rattle.units.specs.Lists.{All}
 use Rattle.layout.specs.Layout.{spelled, order_bytes, link_bytes}
@@ -359,8 +359,80 @@ full_book = record {
       ++ codes "82 refused 9\n";
 }
 
+-- a day under a guard of 10 minutes; minute 480 is eight o'clock
+abbrev pub guarded_day : Sample
+guarded_day = record {
+  bytes =
+      3 ∷ 10 ∷ []
+      -- link 0: from 0 to 1, 100 Mb/s
+      ++ link 0x0040_0190_0000_0000
+      -- link 1: from 1 to 2, 100 Mb/s
+      ++ link 0x0880_0190_0000_0000
+      -- link 2: from 0 to 2, 40 Mb/s
+      ++ link 0x0080_00A0_0000_0000
+      -- 1: clock 480
+      ++ order 0x3000_0000_0000_0000_0000_0078_0000_0000
+      -- 2: book 201, from 0 to 2, 40 Mb/s for 60 minutes, earliest 480, latest open
+      ++ order 0x1032_4020_0028_0003_C000_0078_3FFF_FFFF
+      -- 3: book 202, from 0 to 2, 100 Mb/s for 30 minutes, earliest 480, latest open
+      ++ order 0x1032_8020_0064_0001_E000_0078_3FFF_FFFF
+      -- 4: book 203, from 0 to 2, 40 Mb/s for 30 minutes, earliest 510, latest 519
+      ++ order 0x1032_C020_0028_0001_E000_007F_8000_0207
+      -- 5: the same, latest 520
+      ++ order 0x1032_C020_0028_0001_E000_007F_8000_0208
+      -- 6: book 204, from 0 to 2, 70 Mb/s for 20 minutes, earliest 540, latest open
+      ++ order 0x1033_0020_0046_0001_4000_0087_3FFF_FFFF
+      -- 7: book 205, from 1 to 2, 100 Mb/s for 30 minutes, earliest 660, latest 660
+      ++ order 0x1033_4220_0064_0001_E000_00A5_0000_0294
+      -- 8: offer, from 1 to 2, 100 Mb/s for 60 minutes, earliest 590, latest open
+      ++ order 0x4000_0220_0064_0003_C000_0093_BFFF_FFFF
+      -- 9: the same for 61 minutes
+      ++ order 0x4000_0220_0064_0003_D000_0093_BFFF_FFFF
+      -- 10: clock 540
+      ++ order 0x3000_0000_0000_0000_0000_0087_0000_0000
+      -- 11: book 201, which is in its guard, from 0 to 2, 40 Mb/s for 10 minutes, earliest 540, latest open
+      ++ order 0x1032_4020_0028_0000_A000_0087_3FFF_FFFF
+      -- 12: offer, from 0 to 2, 30 Mb/s for 10 minutes, earliest 540, latest 540
+      ++ order 0x4000_0020_001E_0000_A000_0087_0000_021C
+      -- 13: clock 550
+      ++ order 0x3000_0000_0000_0000_0000_0089_8000_0000
+      -- 14: the booking of order 11 again
+      ++ order 0x1032_4020_0028_0000_A000_0087_3FFF_FFFF
+      -- 15: cancel 204
+      ++ order 0x2033_0000_0000_0000_0000_0000_0000_0000
+      -- 16: offer, from 0 to 2, 100 Mb/s for 20 minutes, earliest 540, latest open
+      ++ order 0x4000_0020_0064_0001_4000_0087_3FFF_FFFF
+      -- 17: cancel 203, which is in its guard
+      ++ order 0x2032_C000_0000_0000_0000_0000_0000_0000
+      -- 18: the same offer again
+      ++ order 0x4000_0020_0064_0001_4000_0087_3FFF_FFFF
+      -- 19: cancel 202, whose guard has ended
+      ++ order 0x2032_8000_0000_0000_0000_0000_0000_0000;
+  text =
+      codes "desk links 3\n"
+      ++ codes "1 clock 480\n"
+      ++ codes "2 booked 201 start 480 links 2\n"
+      ++ codes "3 booked 202 start 480 links 0 1\n"
+      ++ codes "4 refused 8\n"
+      ++ codes "5 booked 203 start 520 links 0 1\n"
+      ++ codes "6 booked 204 start 560 links 0 1\n"
+      ++ codes "7 booked 205 start 660 links 1\n"
+      ++ codes "8 offer start 590 links 1\n"
+      ++ codes "9 offer start 700 links 1\n"
+      ++ codes "10 clock 540\n"
+      ++ codes "11 refused 6\n"
+      ++ codes "12 offer start 540 links 0 1\n"
+      ++ codes "13 clock 550\n"
+      ++ codes "14 booked 201 start 550 links 2\n"
+      ++ codes "15 cancelled 204\n"
+      ++ codes "16 offer start 560 links 0 1\n"
+      ++ codes "17 cancelled 203\n"
+      ++ codes "18 offer start 550 links 0 1\n"
+      ++ codes "19 refused 9\n";
+}
+
 abbrev pub samples : List Sample
-samples = busy_day ∷ full_book ∷ []
+samples = busy_day ∷ full_book ∷ guarded_day ∷ []
 
 -- a program prints the text of each
 abbrev pub PrintsSamples : (List ℕ → List ℕ) → Type 0

@@ -6,7 +6,7 @@ use support::Random;
 use crate::lines::OPEN;
 use crate::plain::{Call, Desk, Walk};
 use crate::{Link, Request};
-use crate::{LINKS, LIST_FIGURES, MAX_CAPACITY, MAX_DURATION, MAX_END, MAX_MINUTE, MAX_NUMBER, NODES};
+use crate::{LINKS, LIST_FIGURES, MAX_CAPACITY, MAX_DURATION, MAX_GUARD, MAX_MINUTE, MAX_NUMBER, MAX_SHOWN, NODES};
 
 /// What the calls of a session or history are like.
 #[derive(Clone, Copy, Debug, PartialEq, Eq)]
@@ -80,6 +80,26 @@ pub fn net(random: &mut Random, style: Style) -> Vec<Link> {
     net
 }
 
+/// A guard of 0 to 15 minutes, each as often.
+pub fn guard(random: &mut Random) -> u32 {
+    random.within(0, MAX_GUARD as u64) as u32
+}
+
+/// The same, but every other one is short, so that gaps between bookings stay wide enough for starts.
+pub fn often_short_guard(random: &mut Random) -> u32 {
+    if random.once_in(2) {
+        random.below(4) as u32
+    } else {
+        guard(random)
+    }
+}
+
+/// A guard that no set-up accepts.
+pub fn long_guard(random: &mut Random) -> u32 {
+    let any = random.within(MAX_GUARD as u64 + 1, u32::MAX as u64) as u32;
+    *pick(random, &[MAX_GUARD + 1, MAX_GUARD + 2, 32, 255, 256, u32::MAX, any])
+}
+
 /// The minute to which a session of this style first moves its clock.
 pub fn first_minute(random: &mut Random, style: Style) -> u32 {
     match style {
@@ -104,19 +124,20 @@ pub fn order(random: &mut Random, style: Style, desk: &Desk) -> Call {
     }
 }
 
-/// A random one of the seven calls. Set-ups are rare, and one in three of them is bad.
+/// A random one of the seven calls. Set-ups are rare, and nearly half of them are bad.
 pub fn call(random: &mut Random, style: Style, desk: &Desk) -> Call {
     match random.below(200) {
-        0 => Call::SetUp(changed_net(random, style)),
+        0 => set_up(random, style),
         1..=30 => {
             let count = desk.links.len() as u64;
             let link = if random.once_in(20) { random.within(count, count + 70) } else { random.below(count) };
             let minute = match random.below(20) {
                 0 => desk.clock.wrapping_sub(1),
-                1 => MAX_END,
-                2 => MAX_END + 1,
-                3 => u32::MAX,
-                4 => desk.clock,
+                1 => MAX_SHOWN - random.within(0, MAX_GUARD as u64 + 1) as u32,
+                2 => MAX_SHOWN,
+                3 => MAX_SHOWN + 1,
+                4 => u32::MAX,
+                5 => desk.clock,
                 _ => near_event(random, desk),
             };
             Call::Show { link: link as u32, minute }
@@ -170,19 +191,20 @@ pub fn list_size(random: &mut Random) -> usize {
     *pick(random, &[0, 1, 2, LIST_FIGURES / 2, LIST_FIGURES - 2, LIST_FIGURES - 1, LIST_FIGURES + 1, any])
 }
 
-/// A net for a set-up in mid-history, sometimes with a bad link or a bad number of links.
-fn changed_net(random: &mut Random, style: Style) -> Vec<Link> {
+/// A set-up in mid-history, sometimes with a bad link, a bad number of links or a guard that is too long, or several of these.
+fn set_up(random: &mut Random, style: Style) -> Call {
     let mut links = net(random, style);
-    match random.below(6) {
-        0 => {
-            let bad = random.below(links.len() as u64) as usize;
-            links[bad] = bad_link(random);
-        }
-        1 if random.once_in(2) => links.clear(),
+    if random.once_in(6) {
+        let bad = random.below(links.len() as u64) as usize;
+        links[bad] = bad_link(random);
+    }
+    match random.below(12) {
+        0 => links.clear(),
         1 => links.resize(LINKS + 1, links[0]),
         _ => {}
     }
-    links
+    let guard = if random.once_in(6) { long_guard(random) } else { guard(random) };
+    Call::SetUp { links, guard }
 }
 
 /// A link that no set-up accepts.
@@ -237,9 +259,10 @@ fn new_minute(random: &mut Random, style: Style, desk: &Desk) -> u32 {
     }
 }
 
-/// An event of the desk, or the minute before or after one.
+/// An event of the desk or the end of a booking, at which its guard begins; or the minute before or after one.
 fn near_event(random: &mut Random, desk: &Desk) -> u32 {
-    let event = *pick(random, &desk.events());
+    let any_end = !desk.bookings.is_empty() && random.once_in(4);
+    let event = if any_end { pick(random, &desk.bookings).end() } else { *pick(random, &desk.events()) };
     match random.below(4) {
         0 => event.saturating_sub(1),
         1 => event + 1,
@@ -247,13 +270,13 @@ fn near_event(random: &mut Random, desk: &Desk) -> u32 {
     }
 }
 
-/// A request whose ends mostly are nodes of the net. A booking of a year is left to the style that is made for it.
+/// A request whose ends mostly are nodes of the net. A booking of a year is left to the styles in which no walk grows long.
 fn request(random: &mut Random, style: Style, desk: &Desk, stands: bool) -> Request {
     let (from, to) = ends(random, style, desk);
     let duration = match random.below(100) {
         0 => 0,
         1 => MAX_DURATION + 1,
-        2..=4 if style == Style::Long || !stands => MAX_DURATION,
+        2..=4 if matches!(style, Style::Long | Style::Late) || !stands => MAX_DURATION,
         5..=30 if style == Style::Long => MAX_DURATION - random.below(3) as u32,
         31..=40 => 1,
         _ if style == Style::Full => random.within(20, 90) as u32,

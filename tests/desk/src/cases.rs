@@ -1,12 +1,13 @@
 //! Histories worked out by hand from document 01: its session, its examples and the faults that it names; listings by
-//! document 02's Job 1; and offers after cancellations by its Job 4.
+//! document 02's Job 1; offers after cancellations by its Job 4; and guards by its Job 5.
 
 use crate::plain::{Answer, Call, Range, Start};
-use crate::{Link, Request, BOOKINGS, LIST_FIGURES, MAX_BANDWIDTH, MAX_DURATION, MAX_MINUTE};
+use crate::{Link, Request, BOOKINGS, LIST_FIGURES, MAX_BANDWIDTH, MAX_DURATION, MAX_GUARD, MAX_MINUTE};
 
 pub struct Case {
     pub name: &'static str,
     pub links: Vec<Link>,
+    pub guard: u32,
     pub steps: Vec<(Call, Answer)>,
 }
 
@@ -54,8 +55,17 @@ fn refused(call: Call, refusal: u32) -> (Call, Answer) {
     (call, Answer::Refused(refusal))
 }
 
+fn set_up(links: Vec<Link>, guard: u32) -> (Call, Answer) {
+    (Call::SetUp { links, guard }, Answer::SetUp)
+}
+
+fn no_set_up(links: Vec<Link>, guard: u32, refusal: u32) -> (Call, Answer) {
+    refused(Call::SetUp { links, guard }, refusal)
+}
+
 pub fn cases() -> Vec<Case> {
-    let case = |name, links, steps| Case { name, links, steps };
+    let case = |name, links, steps| Case { name, links, guard: 0, steps };
+    let guarded = |name, guard, links, steps| Case { name, links, guard, steps };
     vec![
         case("document 01's session", triangle(), session()),
         case("the free figure is accepted, one more is refused 8", links(&[(0, 1, 9)]), free_figure()),
@@ -81,6 +91,22 @@ pub fn cases() -> Vec<Case> {
         case("the most ranges there are", links(&[(0, 1, 10)]), most_ranges()),
         case("listings to the last minute", links(&[(0, 1, 5)]), listed_last_minutes()),
         case("an offer after cancellations: the same, earlier, by fewer links", triangle(), cancelled_between()),
+        guarded(
+            "sold full for minutes 0 to 9 under guard 2, the next starts at 12",
+            2,
+            links(&[(0, 1, 10)]),
+            sold_full(),
+        ),
+        guarded("a guard before a later booking", 3, links(&[(0, 1, 10)]), guard_before_a_booking()),
+        guarded("a gap of five minutes under guard 2", 2, links(&[(0, 1, 10)]), guarded_gap()),
+        guarded("document 01's session under guard 2", 2, triangle(), guarded_session()),
+        guarded("a booking stands until its guard ends", 4, links(&[(0, 1, 5)]), stands_in_its_guard()),
+        guarded("a full book of guards", MAX_GUARD, links(&[(0, 1, 1_000)]), full_of_guards()),
+        guarded("a guarded end that another booking needs", 2, links(&[(0, 1, 10)]), shared_guarded_end()),
+        guarded("durations under the longest guard", MAX_GUARD, triangle(), guarded_durations()),
+        guarded("the last minutes under the longest guard", MAX_GUARD, links(&[(0, 1, 5)]), guarded_last_minutes()),
+        guarded("the most ranges under guard 1", 1, links(&[(0, 1, 10)]), most_guarded_ranges()),
+        guarded("what set-up refuses for a guard, and the guard that it sets", 0, triangle(), set_up_guards()),
     ]
 }
 
@@ -276,7 +302,8 @@ fn last_minutes() -> Vec<(Call, Answer)> {
         refused(Call::MoveClock(MAX_MINUTE + 1), 4),
         shown(0, MAX_MINUTE + MAX_DURATION - 1, 0),
         shown(0, MAX_MINUTE + MAX_DURATION, 5),
-        refused(Call::Show { link: 0, minute: MAX_MINUTE + MAX_DURATION + 1 }, 4),
+        shown(0, 1_000_525_615, 5),
+        refused(Call::Show { link: 0, minute: 1_000_525_616 }, 4),
         cancelled(1),
         offered(Request { earliest: 0, ..last }, MAX_MINUTE, &[0]),
     ]
@@ -294,15 +321,15 @@ fn small_refusals() -> Vec<(Call, Answer)> {
         refused(Call::Show { link: 3, minute: 3 }, 4),
         refused(Call::Show { link: 0, minute: 2 }, 4),
         shown(2, 3, 4),
-        refused(Call::SetUp(Vec::new()), 1),
-        refused(Call::SetUp(vec![Link { from: 0, to: 1, capacity: 1 }; 65]), 1),
-        refused(Call::SetUp(vec![Link { from: 0, to: 32, capacity: 1 }; 65]), 1),
-        refused(Call::SetUp(links(&[(0, 1, 1), (0, 32, 1)])), 2),
-        refused(Call::SetUp(links(&[(1, 1, 1)])), 2),
-        refused(Call::SetUp(links(&[(0, 1, 0)])), 2),
-        refused(Call::SetUp(links(&[(0, 1, 1_000_001)])), 2),
+        no_set_up(Vec::new(), 0, 1),
+        no_set_up(vec![Link { from: 0, to: 1, capacity: 1 }; 65], 0, 1),
+        no_set_up(vec![Link { from: 0, to: 32, capacity: 1 }; 65], 0, 1),
+        no_set_up(links(&[(0, 1, 1), (0, 32, 1)]), 0, 2),
+        no_set_up(links(&[(1, 1, 1)]), 0, 2),
+        no_set_up(links(&[(0, 1, 0)]), 0, 2),
+        no_set_up(links(&[(0, 1, 1_000_001)]), 0, 2),
         shown(2, 3, 4),
-        (Call::SetUp(links(&[(0, 1, 7)])), Answer::SetUp),
+        set_up(links(&[(0, 1, 7)]), 0),
         shown(0, 0, 7),
     ]
 }
@@ -467,5 +494,220 @@ fn cancelled_between() -> Vec<(Call, Answer)> {
         offered(offer, 0, &[0, 1]),
         cancelled(7),
         offered(offer, 0, &[2]),
+    ]
+}
+
+/// Minutes 0 to 9, and the guard in 10 and 11. The next booking holds 12 to 16, and its guard 17 and 18.
+fn sold_full() -> Vec<(Call, Answer)> {
+    vec![
+        booked(1, request(1, 10, 10, 0, 0), 0, &[0]),
+        shown(0, 9, 0),
+        shown(0, 10, 0),
+        shown(0, 11, 0),
+        shown(0, 12, 10),
+        refused(Call::Book(2, request(1, 1, 1, 0, 11)), 8),
+        offered(request(1, 1, 1, 0, 12), 12, &[0]),
+        listed(request(1, 10, 5, 0, MAX_MINUTE), &[(12, MAX_MINUTE)]),
+        booked(2, request(1, 10, 5, 0, MAX_MINUTE), 12, &[0]),
+        shown(0, 18, 0),
+        shown(0, 19, 10),
+    ]
+}
+
+/// Booking 1 holds minutes 20 to 24 and its guard of three until 27. Whatever starts before it ends with its own guard at
+/// or before 20.
+fn guard_before_a_booking() -> Vec<(Call, Answer)> {
+    vec![
+        booked(1, request(1, 10, 5, 20, 20), 20, &[0]),
+        offered(request(1, 1, 17, 0, MAX_MINUTE), 0, &[0]),
+        offered(request(1, 1, 18, 0, MAX_MINUTE), 28, &[0]),
+        listed(request(1, 1, 5, 0, 40), &[(0, 12), (28, 40)]),
+        refused(Call::Offer(request(1, 1, 5, 13, 27)), 8),
+        booked(2, request(1, 4, 17, 0, 0), 0, &[0]),
+        shown(0, 19, 6),
+        shown(0, 20, 0),
+    ]
+}
+
+/// Booking 1 is held to minute 6 and booking 2 from 12 on: minutes 7 to 11 are free, of which two are for a guard.
+fn guarded_gap() -> Vec<(Call, Answer)> {
+    let in_gap = |duration| request(1, 10, duration, 0, 18);
+    vec![
+        booked(1, request(1, 10, 5, 0, 0), 0, &[0]),
+        booked(2, request(1, 10, 5, 12, 12), 12, &[0]),
+        listed(in_gap(1), &[(7, 9)]),
+        listed(in_gap(2), &[(7, 8)]),
+        listed(in_gap(3), &[(7, 7)]),
+        listed(in_gap(4), &[]),
+        refused(Call::Book(3, in_gap(4)), 8),
+        booked(3, in_gap(3), 7, &[0]),
+        listed(request(1, 1, 1, 0, MAX_MINUTE), &[(19, MAX_MINUTE)]),
+    ]
+}
+
+/// Booking 9 holds links 0 and 1 to minute 6, so that booking 3 starts at 7; booking 7 stands at minute 10.
+fn guarded_session() -> Vec<(Call, Answer)> {
+    let third = request(2, 5, 4, 2, 5);
+    vec![
+        booked(7, request(2, 4, 10, 0, MAX_MINUTE), 0, &[2]),
+        booked(9, request(2, 6, 5, 0, MAX_MINUTE), 0, &[0, 1]),
+        refused(Call::Book(3, third), 8),
+        booked(3, Request { latest: 7, ..third }, 7, &[0, 1]),
+        cancelled(9),
+        offered(request(2, 4, 3, 0, 0), 0, &[0, 1]),
+        offered(request(2, 6, 5, 0, 0), 0, &[0, 1]),
+        // Minutes 7 to 12 have 5 Mb/s left.
+        offered(request(2, 6, 6, 0, MAX_MINUTE), 13, &[0, 1]),
+        clock(10),
+        shown(2, 11, 0),
+        shown(2, 12, 4),
+        cancelled(7),
+        shown(2, 11, 4),
+    ]
+}
+
+/// Minutes 0 to 4, and the guard in 5 to 8: the number stands until the clock is 9. A booking that is cancelled in its guard
+/// holds nothing any more.
+fn stands_in_its_guard() -> Vec<(Call, Answer)> {
+    let whole = request(1, 5, 5, 0, MAX_MINUTE);
+    vec![
+        booked(1, whole, 0, &[0]),
+        clock(5),
+        refused(Call::Book(1, whole), 6),
+        shown(0, 5, 0),
+        offered(whole, 9, &[0]),
+        clock(8),
+        refused(Call::Book(1, whole), 6),
+        shown(0, 8, 0),
+        shown(0, 9, 5),
+        clock(9),
+        shown(0, 9, 5),
+        refused(Call::Cancel(1), 9),
+        booked(1, whole, 9, &[0]),
+        clock(15),
+        offered(whole, 18, &[0]),
+        cancelled(1),
+        offered(whole, 15, &[0]),
+        shown(0, 15, 5),
+        booked(1, whole, 15, &[0]),
+    ]
+}
+
+/// 64 bookings of minute 0 stand until minute 16.
+fn full_of_guards() -> Vec<(Call, Answer)> {
+    let one = request(1, 1, 1, 0, 20);
+    let mut steps: Vec<_> = (1..=64).map(|number| booked(number, one, 0, &[0])).collect();
+    steps.extend([
+        clock(1),
+        refused(Call::Book(65, one), 7),
+        clock(15),
+        refused(Call::Book(64, one), 6),
+        refused(Call::Book(65, one), 7),
+        offered(request(1, 936, 1, 0, 15), 15, &[0]),
+        offered(request(1, 937, 1, 0, 20), 16, &[0]),
+        cancelled(30),
+        booked(65, one, 15, &[0]),
+        refused(Call::Book(30, one), 7),
+        clock(16),
+        booked(30, one, 16, &[0]),
+        booked(64, one, 16, &[0]),
+        shown(0, 30, 997),
+        shown(0, 31, 998),
+    ]);
+    steps
+}
+
+/// Minute 7 is the guarded end of booking 1 and the start of booking 2, and stays an event after 1 is cancelled. So it does,
+/// as the start of 4, when 2 goes.
+fn shared_guarded_end() -> Vec<(Call, Answer)> {
+    vec![
+        booked(1, request(1, 3, 5, 0, 0), 0, &[0]),
+        booked(2, request(1, 4, 5, 7, 7), 7, &[0]),
+        shown(0, 6, 7),
+        cancelled(1),
+        shown(0, 6, 10),
+        shown(0, 7, 6),
+        shown(0, 13, 6),
+        shown(0, 14, 10),
+        booked(4, request(1, 1, 3, 7, 7), 7, &[0]),
+        cancelled(2),
+        shown(0, 6, 10),
+        shown(0, 7, 9),
+        shown(0, 11, 9),
+        shown(0, 12, 10),
+    ]
+}
+
+/// The longest duration is a request's own, without the guard.
+fn guarded_durations() -> Vec<(Call, Answer)> {
+    vec![
+        refused(Call::Book(1, request(2, 4, MAX_DURATION + 1, 0, 0)), 4),
+        booked(1, request(2, 4, MAX_DURATION, 0, 0), 0, &[2]),
+        booked(2, request(2, 10, MAX_DURATION, 0, MAX_MINUTE), 0, &[0, 1]),
+        refused(Call::Offer(request(2, 1, 1, 0, 525_614)), 8),
+        booked(3, request(2, 1, 1, 0, MAX_MINUTE), 525_615, &[2]),
+    ]
+}
+
+/// The booking ends at 1,000,525,600, and its guard fifteen minutes later.
+fn guarded_last_minutes() -> Vec<(Call, Answer)> {
+    let last = request(1, 5, MAX_DURATION, MAX_MINUTE, MAX_MINUTE);
+    vec![
+        booked(1, last, MAX_MINUTE, &[0]),
+        listed(request(1, 1, 1, 999_999_900, MAX_MINUTE), &[(999_999_900, 999_999_984)]),
+        clock(MAX_MINUTE),
+        shown(0, 1_000_525_599, 0),
+        shown(0, 1_000_525_600, 0),
+        shown(0, 1_000_525_614, 0),
+        shown(0, 1_000_525_615, 5),
+        refused(Call::Show { link: 0, minute: 1_000_525_616 }, 4),
+        refused(Call::Offer(Request { bandwidth: 1, duration: 1, ..last }), 8),
+        cancelled(1),
+        shown(0, 1_000_525_614, 5),
+        offered(last, MAX_MINUTE, &[0]),
+    ]
+}
+
+/// 64 bookings of one minute, each held for two, with two minutes between them: a minute and its guard fit into these at
+/// their first.
+fn most_guarded_ranges() -> Vec<(Call, Answer)> {
+    let numbers = 1..=BOOKINGS as u32;
+    let book = |number: u32| booked(number, request(1, 10, 1, 4 * number - 2, 4 * number - 2), 4 * number - 2, &[0]);
+    let mut steps: Vec<_> = numbers.clone().map(book).collect();
+    let mut firsts: Vec<(u32, u32)> = numbers.map(|number| (4 * number - 4, 4 * number - 4)).collect();
+    steps.push(listed(request(1, 1, 1, 0, 255), &firsts));
+    firsts.push((256, MAX_MINUTE));
+    steps.push(listed(request(1, 1, 1, 0, MAX_MINUTE), &firsts));
+    steps.push(listed(request(1, 1, 1, 1, MAX_MINUTE), &firsts[1..]));
+    steps.push(listed(request(1, 1, 2, 0, MAX_MINUTE), &[(256, MAX_MINUTE)]));
+    steps
+}
+
+/// A set-up is refused 1 before 4 and 4 before 2, and the guard stays. An accepted one brings its own.
+fn set_up_guards() -> Vec<(Call, Answer)> {
+    let good = || links(&[(0, 1, 7)]);
+    let looped = || links(&[(1, 1, 7)]);
+    vec![
+        no_set_up(Vec::new(), 16, 1),
+        no_set_up(vec![Link { from: 1, to: 1, capacity: 7 }; 65], 16, 1),
+        no_set_up(looped(), 16, 4),
+        no_set_up(looped(), u32::MAX, 4),
+        no_set_up(good(), 16, 4),
+        no_set_up(good(), u32::MAX, 4),
+        no_set_up(looped(), 15, 2),
+        booked(1, request(2, 4, 10, 0, 0), 0, &[2]),
+        shown(2, 10, 4),
+        set_up(good(), 15),
+        booked(1, request(1, 7, 1, 0, 0), 0, &[0]),
+        shown(0, 15, 0),
+        shown(0, 16, 7),
+        set_up(good(), 1),
+        booked(1, request(1, 7, 1, 0, 0), 0, &[0]),
+        shown(0, 1, 0),
+        shown(0, 2, 7),
+        no_set_up(good(), 16, 4),
+        booked(2, request(1, 7, 3, 0, MAX_MINUTE), 2, &[0]),
+        shown(0, 5, 0),
+        shown(0, 6, 7),
     ]
 }

@@ -3,34 +3,35 @@
 
 use support::Random;
 
-use crate::calls::pick;
+use crate::calls::{guard, long_guard, pick};
 use crate::plain::Desk;
 use crate::tables::{written, Tables};
 use crate::{Link, BOOKINGS, EVENTS, LINKS, PATH_LINKS, PLACE, ROW};
-use crate::{MAX_BANDWIDTH, MAX_DURATION, MAX_MINUTE, MAX_NUMBER};
+use crate::{MAX_BANDWIDTH, MAX_DURATION, MAX_GUARD, MAX_MINUTE, MAX_NUMBER};
 
 /// Changes one figure or one length, and says which. A changed figure is never the one that stood there.
 pub fn damage(random: &mut Random, links: &mut Vec<Link>, tables: &mut Tables) -> String {
     let head = tables.head;
-    match random.below(20) {
+    match random.below(21) {
         0 => changed(random, "the head's clock", &mut tables.head.clock),
         1 => changed(random, "the head's links", &mut tables.head.links),
         2 => changed(random, "the head's bookings", &mut tables.head.bookings),
-        3..=6 => {
+        3 => change_guard(random, tables),
+        4..=7 => {
             let used = tables.events.iter().filter(|&&minute| minute != 0).count();
             let place = place(random, used + 1, EVENTS);
             changed(random, &format!("event {place}"), &mut tables.events[place])
         }
-        7..=11 => {
+        8..=12 => {
             let used = tables.events.iter().filter(|&&minute| minute != 0).count();
             let (row, link) = (place(random, used + 1, EVENTS), place(random, links.len() + 1, ROW));
             changed(random, &format!("the free figure of row {row}, link {link}"), &mut tables.free[row * ROW + link])
         }
-        12..=16 => {
+        13..=17 => {
             let (place, field) = (place(random, head.bookings as usize + 1, BOOKINGS), place(random, 8, PLACE));
             changed(random, &format!("field {field} of place {place}"), &mut tables.book[place * PLACE + field])
         }
-        17 => {
+        18 => {
             let number = random.below(links.len() as u64) as usize;
             let link = &mut links[number];
             let (name, figure) = match random.below(3) {
@@ -40,7 +41,7 @@ pub fn damage(random: &mut Random, links: &mut Vec<Link>, tables: &mut Tables) -
             };
             changed(random, &format!("the {name} of link {number}"), figure)
         }
-        18 => {
+        19 => {
             let (name, table) = match random.below(3) {
                 0 => ("events", &mut tables.events),
                 1 => ("free figures", &mut tables.free),
@@ -63,7 +64,21 @@ pub fn damage(random: &mut Random, links: &mut Vec<Link>, tables: &mut Tables) -
     }
 }
 
-/// Tables of a desk with one change in its clock or its bookings that mostly breaks a rule, and what was changed. Events
+/// Every guard there is and some that there are not, but for one.
+pub fn other_guards(guard: u32) -> impl Iterator<Item = u32> {
+    (0..=MAX_GUARD + 2).chain([32, 255, u32::MAX]).filter(move |&other| other != guard)
+}
+
+/// Changes the head's guard to another one, mostly of 0 to 15, and says so.
+fn change_guard(random: &mut Random, tables: &mut Tables) -> String {
+    let old = tables.head.guard;
+    while tables.head.guard == old {
+        tables.head.guard = if random.once_in(3) { long_guard(random) } else { guard(random) };
+    }
+    format!("the head's guard changed from {old} to {}", tables.head.guard)
+}
+
+/// Tables of a desk with one change in its guard, clock or bookings that mostly breaks a rule, and what was changed. Events
 /// and free figures follow the change, so that only the rule itself can tell; an oversold figure is wrapped around or 0.
 pub fn forged(random: &mut Random, desk: &Desk) -> (Tables, &'static str) {
     let mut desk = desk.clone();
@@ -73,16 +88,22 @@ pub fn forged(random: &mut Random, desk: &Desk) -> (Tables, &'static str) {
 }
 
 fn forge(random: &mut Random, desk: &mut Desk) -> &'static str {
+    let too_long = *pick(random, &[MAX_GUARD + 1, MAX_GUARD + 2, MAX_DURATION, MAX_MINUTE]);
     if desk.bookings.is_empty() {
-        desk.clock = MAX_MINUTE + 1;
-        return "a clock behind the last minute";
+        return if random.once_in(2) {
+            desk.clock = MAX_MINUTE + 1;
+            "a clock behind the last minute"
+        } else {
+            desk.guard = too_long;
+            "a guard that is too long"
+        };
     }
     let place = random.below(desk.bookings.len() as u64) as usize;
     let another = pick(random, &desk.bookings).number;
     let full = desk.bookings.len() == BOOKINGS;
     let booking = &mut desk.bookings[place];
     let last = desk.links[booking.path[booking.path.len() - 1] as usize];
-    match random.below(11) {
+    match random.below(14) {
         0 | 1 => {
             let capacity = desk.links[booking.path[0] as usize].capacity;
             booking.bandwidth = (capacity + random.below(2) as u32).min(MAX_BANDWIDTH);
@@ -95,8 +116,8 @@ fn forge(random: &mut Random, desk: &mut Desk) -> &'static str {
             "a booking under a second number"
         }
         3 => {
-            desk.clock = booking.end().min(MAX_MINUTE);
-            "a booking that has ended"
+            desk.clock = (booking.end() + desk.guard).min(MAX_MINUTE);
+            "a booking whose guard has ended"
         }
         4 => {
             booking.number = *pick(random, &[0, MAX_NUMBER + 1, another]);
@@ -122,6 +143,18 @@ fn forge(random: &mut Random, desk: &mut Desk) -> &'static str {
         9 => {
             booking.bandwidth = 0;
             "no bandwidth"
+        }
+        10 => {
+            desk.guard = too_long;
+            "a guard that is too long"
+        }
+        11 => {
+            desk.guard = MAX_GUARD;
+            "the longest guard"
+        }
+        12 => {
+            desk.guard = 0;
+            "no guard"
         }
         _ => {
             booking.path.clear();
@@ -150,6 +183,20 @@ fn changed(random: &mut Random, what: &str, figure: &mut u32) -> String {
         };
     }
     format!("{what} changed from {old} to {figure}")
+}
+
+/// Gives a table, or the list of links, another size than the stated one.
+pub fn resize(random: &mut Random, links: &mut Vec<Link>, held: &mut Tables) {
+    let table = match random.below(5) {
+        0 => &mut held.events,
+        1 => &mut held.free,
+        2 => &mut held.book,
+        3 => return links.clear(),
+        _ => return links.resize(LINKS + 1 + random.below(3) as usize, links[0]),
+    };
+    let size = table.len();
+    let other = [0, size - 1, size + 1, size / 2, 2 * size][random.below(5) as usize];
+    table.resize(other, 0);
 }
 
 fn other_length(random: &mut Random, length: usize) -> usize {

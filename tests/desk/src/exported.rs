@@ -2,7 +2,7 @@
 
 use support::Random;
 
-use crate::plain::{Answer, Call, Range, Start};
+use crate::plain::{Answer, Call, Desk, Range, Start};
 use crate::tables::Tables;
 use crate::{Head, Link, Request, PATH_LINKS};
 
@@ -53,7 +53,7 @@ macro_rules! calls {
 }
 
 calls! {
-    fn gcr_set_up(mut) -> u32;
+    fn gcr_set_up(mut, guard: u32) -> u32;
     fn gcr_book(mut, number: u32, request: Request) -> Granted;
     fn gcr_offer(const, request: Request) -> Granted;
     fn gcr_list_starts(const, request: Request, list: *mut u32, list_count: usize) -> Listed;
@@ -82,8 +82,8 @@ macro_rules! reading {
     }};
 }
 
-pub fn set_up(links: &[Link], t: &mut Tables) -> Result<(), u32> {
-    done(writing!(gcr_set_up, links, t))
+pub fn set_up(links: &[Link], t: &mut Tables, guard: u32) -> Result<(), u32> {
+    done(writing!(gcr_set_up, links, t, guard))
 }
 
 pub fn book(links: &[Link], t: &mut Tables, number: u32, request: &Request) -> Result<Start, u32> {
@@ -121,17 +121,17 @@ pub fn show(links: &[Link], t: &Tables, link: u32, minute: u32) -> Result<u32, u
     Err(shown.refusal)
 }
 
-/// A desk just set up, on tables that held anything.
-pub fn fresh(links: &[Link], random: &mut Random) -> Tables {
+/// A desk just set up with the links and the guard of another, on tables that held anything.
+pub fn fresh(desk: &Desk, random: &mut Random) -> Tables {
     let mut held = Tables::filled_with(random.next() as u32);
-    assert_eq!(set_up(links, &mut held), Ok(()));
+    assert_eq!(set_up(&desk.links, &mut held, desk.guard), Ok(()));
     held
 }
 
-/// A call on a desk with these links; a set-up brings its own.
+/// A call on a desk with these links; a set-up brings its own, and its guard.
 pub fn answer(links: &[Link], tables: &mut Tables, call: &Call) -> Answer {
     let answered = match call {
-        Call::SetUp(links) => set_up(links, tables).map(|()| Answer::SetUp),
+        Call::SetUp { links, guard } => set_up(links, tables, *guard).map(|()| Answer::SetUp),
         Call::Book(number, request) => book(links, tables, *number, request).map(Answer::Booked),
         Call::Offer(request) => offer(links, tables, request).map(Answer::Offered),
         Call::List(figures, request) => {

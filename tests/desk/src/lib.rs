@@ -5,6 +5,7 @@ pub mod calls;
 pub mod cases;
 pub mod damages;
 pub mod exported;
+pub mod guards;
 pub mod lines;
 pub mod listings;
 pub mod plain;
@@ -31,8 +32,9 @@ pub const MAX_CAPACITY: u32 = 1_000_000;
 pub const MAX_BANDWIDTH: u32 = 1_000_000;
 pub const MAX_DURATION: u32 = 525_600;
 pub const MAX_MINUTE: u32 = 1_000_000_000;
-/// The last minute that may be shown: the latest end.
-pub const MAX_END: u32 = 1_000_525_600;
+pub const MAX_GUARD: u32 = 15;
+/// The last minute that may be shown: the latest end under the longest guard.
+pub const MAX_SHOWN: u32 = 1_000_525_615;
 
 #[repr(C)]
 #[derive(Clone, Copy, Debug, PartialEq, Eq, Default)]
@@ -40,4 +42,5 @@ pub struct Head {
     pub clock: u32,
     pub links: u32,
     pub bookings: u32,
+    pub guard: u32,
 }

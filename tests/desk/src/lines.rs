@@ -22,19 +22,20 @@ pub fn output(input: &[u8]) -> String {
 }
 
 /// The desk that the first bytes set up, and the bytes of the orders behind them. Refuses 12 for no byte, 1 for the count
-/// of links, 12 for too few bytes, 11 for a bad record, 2 for a bad link.
+/// of links, 12 for no guard or too few bytes, 11 for a bad record, 4 for the guard, 2 for a bad link.
 pub fn opening(input: &[u8]) -> Result<(Desk, &[u8]), u32> {
     let (&count, rest) = input.split_first().ok_or(12u32)?;
     let count = count as usize;
     if count == 0 || count > LINKS {
         return Err(1);
     }
+    let (&guard, rest) = rest.split_first().ok_or(12u32)?;
     if rest.len() < count * LINK_BYTES {
         return Err(12);
     }
     let (records, orders) = rest.split_at(count * LINK_BYTES);
     let links = records.chunks(LINK_BYTES).map(read_link).collect::<Result<Vec<Link>, u32>>()?;
-    Ok((Desk::set_up(&links)?, orders))
+    Ok((Desk::set_up(&links, guard as u32)?, orders))
 }
 
 /// The desk's answer to the bytes of an order.
@@ -133,7 +134,7 @@ pub fn order_bytes(call: &Call) -> [u8; ORDER_BYTES] {
         Call::Cancel(number) => (2, *number, Request::default()),
         Call::MoveClock(minute) => (3, 0, Request { earliest: *minute, ..Request::default() }),
         Call::Offer(request) => (4, 0, *request),
-        Call::SetUp(_) | Call::List(..) | Call::Show { .. } => panic!("no order asks for {call:?}"),
+        Call::SetUp { .. } | Call::List(..) | Call::Show { .. } => panic!("no order asks for {call:?}"),
     };
     let Request { from, to, bandwidth, duration, earliest, latest } = request;
     let ends_and_size = [(from, 5), (to, 5), (bandwidth, 20), (duration, 20)];

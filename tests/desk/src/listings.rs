@@ -2,7 +2,7 @@
 
 use support::Random;
 
-use crate::calls::{just_free, pick};
+use crate::calls::{just_free, often_short_guard, pick};
 use crate::plain::{best_path, Booking, Desk, Range, Trial, Walk};
 use crate::{Link, Request};
 use crate::{BOOKINGS, LINKS, MAX_BANDWIDTH, MAX_CAPACITY, MAX_DURATION, MAX_MINUTE, NODES};
@@ -35,18 +35,19 @@ pub fn fault(random: &mut Random, desk: &Desk, request: &Request, ranges: &[Rang
     wrong.map(|minute| format!("minute {minute} is listed and not possible, or possible and not listed, in {ranges:?}"))
 }
 
-/// Minutes of a window: its ends, any ones, and every first, last, event and event less duration with its neighbours.
+/// Minutes of a window: its ends, any ones, and every first, last, event and event less the span with its neighbours.
 fn sampled(random: &mut Random, desk: &Desk, request: &Request, ranges: &[Range]) -> Vec<u32> {
     let (low, latest) = (desk.low(request), request.latest);
     let events = desk.events();
+    let span = request.duration + desk.guard;
     let near = |minute: u32| [minute.saturating_sub(1), minute, minute.saturating_add(1)];
     let mut minutes = vec![low, low + 1, latest - 1, latest];
     minutes.extend(ranges.iter().flat_map(|range| [range.first, range.last]).flat_map(near));
     minutes.extend(events.iter().copied().flat_map(near));
-    minutes.extend(events.iter().map(|event| event.saturating_sub(request.duration)).flat_map(near));
+    minutes.extend(events.iter().map(|event| event.saturating_sub(span)).flat_map(near));
     for _ in 0..SAMPLES {
         minutes.push(random.within(low as u64, latest as u64) as u32);
-        let reach = 2 * request.duration as u64 + 50;
+        let reach = 2 * span as u64 + 50;
         minutes.push((*pick(random, &events) as u64 + random.below(reach)).saturating_sub(reach / 2) as u32);
     }
     minutes.retain(|&minute| low <= minute && minute <= latest);
@@ -85,7 +86,8 @@ pub fn desk(random: &mut Random, kind: Kind) -> Desk {
         Kind::Late => MAX_MINUTE - random.below(200) as u32,
         _ => *pick(random, &[0, 0, 1, 977, 1_000_000]),
     };
-    let mut desk = Desk { links: net(random, kind), clock, bookings: Vec::new() };
+    let (links, guard) = (net(random, kind), often_short_guard(random));
+    let mut desk = Desk { links, guard, clock, bookings: Vec::new() };
     let bookings = match kind {
         Kind::OneRow => 0,
         Kind::Full | Kind::Spread => BOOKINGS,
@@ -136,10 +138,11 @@ fn add_booking(random: &mut Random, kind: Kind, desk: &mut Desk) {
     let start = (desk.clock as u64 + random.below(breadth)).saturating_sub(2).min(MAX_MINUTE as u64) as u32;
     let duration = random.within(1, longest) as u32;
     let Some(path) = best_path(&desk.links, random.next() | random.next(), from, to) else { return };
-    let changes = desk.events().into_iter().filter(|&event| start < event && event < start + duration).chain([start]);
+    let end = start + duration + desk.guard;
+    let changes = desk.events().into_iter().filter(|&event| start < event && event < end).chain([start]);
     let room = changes.flat_map(|minute| path.iter().map(move |&link| (link, minute)));
     let room = room.map(|(link, minute)| desk.residual(link, minute)).min().unwrap_or(0) as u64;
-    if room == 0 || start + duration <= desk.clock {
+    if room == 0 || end <= desk.clock {
         return;
     }
     let bandwidth = if random.once_in(2) { room } else { random.within(1, room) } as u32;

@@ -1,9 +1,9 @@
-//! The independent desk: a link list, a clock and a list of bookings, and the seven calls with their checks in the order of
-//! documents 01 and 02. It keeps no table: a residual bandwidth is the capacity less what the bookings hold.
+//! The independent desk: a link list, a guard, a clock and a list of bookings, and the seven calls with their checks in the
+//! order of documents 01 and 02. It keeps no table: a residual bandwidth is the capacity less what the bookings hold.
 
 use crate::{Link, Request};
 use crate::{BOOKINGS, LINKS, LIST_FIGURES, NODES, PATH_LINKS};
-use crate::{MAX_BANDWIDTH, MAX_CAPACITY, MAX_DURATION, MAX_END, MAX_MINUTE, MAX_NUMBER};
+use crate::{MAX_BANDWIDTH, MAX_CAPACITY, MAX_DURATION, MAX_GUARD, MAX_MINUTE, MAX_NUMBER, MAX_SHOWN};
 
 #[derive(Clone, Debug, PartialEq, Eq)]
 pub struct Booking {
@@ -18,17 +18,13 @@ impl Booking {
     pub fn end(&self) -> u32 {
         self.start + self.duration
     }
-
-    /// Whether the booking holds its links in this minute.
-    pub fn holds(&self, minute: u32) -> bool {
-        self.start <= minute && minute < self.end()
-    }
 }
 
-/// The links and the plain book. The order of the bookings doesn't count.
+/// The links, the guard and the plain book. The order of the bookings doesn't count.
 #[derive(Clone, Debug, PartialEq, Eq)]
 pub struct Desk {
     pub links: Vec<Link>,
+    pub guard: u32,
     pub clock: u32,
     pub bookings: Vec<Booking>,
 }
@@ -36,7 +32,7 @@ pub struct Desk {
 /// A listing has the number of figures of its lent list.
 #[derive(Clone, Debug, PartialEq, Eq)]
 pub enum Call {
-    SetUp(Vec<Link>),
+    SetUp { links: Vec<Link>, guard: u32 },
     Book(u32, Request),
     Offer(Request),
     List(usize, Request),
@@ -79,21 +75,24 @@ pub enum Walk {
 }
 
 impl Desk {
-    /// A desk at minute 0. Refuses 1 for the number of links, then 2 for a bad link.
-    pub fn set_up(links: &[Link]) -> Result<Desk, u32> {
+    /// A desk at minute 0. Refuses 1 for the number of links, 4 for the guard, then 2 for a bad link.
+    pub fn set_up(links: &[Link], guard: u32) -> Result<Desk, u32> {
         if links.is_empty() || links.len() > LINKS {
             return Err(1);
+        }
+        if guard > MAX_GUARD {
+            return Err(4);
         }
         if !links.iter().all(valid_link) {
             return Err(2);
         }
-        Ok(Desk { links: links.to_vec(), clock: 0, bookings: Vec::new() })
+        Ok(Desk { links: links.to_vec(), guard, clock: 0, bookings: Vec::new() })
     }
 
     /// Runs any of the seven calls on sound tables of the right sizes: refusals 1 (but for the link list) and 3 don't occur.
     pub fn answer(&mut self, call: &Call) -> Answer {
         let answer = match call {
-            Call::SetUp(links) => Desk::set_up(links).map(|desk| {
+            Call::SetUp { links, guard } => Desk::set_up(links, *guard).map(|desk| {
                 *self = desk;
                 Answer::SetUp
             }),
@@ -163,13 +162,14 @@ impl Desk {
             return Err(10);
         }
         self.clock = minute;
-        self.bookings.retain(|booking| booking.end() > minute);
+        let guard = self.guard;
+        self.bookings.retain(|booking| booking.end() + guard > minute);
         Ok(())
     }
 
     /// Refuses 4.
     pub fn show(&self, link: u32, minute: u32) -> Result<u32, u32> {
-        if link as usize >= self.links.len() || minute < self.clock || minute > MAX_END {
+        if link as usize >= self.links.len() || minute < self.clock || minute > MAX_SHOWN {
             return Err(4);
         }
         Ok(self.residual(link, minute) as u32)
@@ -179,24 +179,35 @@ impl Desk {
         self.bookings.iter().any(|booking| booking.number == number)
     }
 
+    /// The minute from which on a booking holds no link and no longer stands.
+    pub fn guarded_end(&self, booking: &Booking) -> u32 {
+        booking.end() + self.guard
+    }
+
+    /// Whether a booking holds its links in this minute.
+    pub fn holds(&self, booking: &Booking, minute: u32) -> bool {
+        booking.start <= minute && minute < self.guarded_end(booking)
+    }
+
     /// The residual bandwidth of a link in a minute: below zero if the link is oversold.
     pub fn residual(&self, link: u32, minute: u32) -> i64 {
-        let held = self.bookings.iter().filter(|booking| booking.holds(minute) && booking.path.contains(&link));
+        let held = self.bookings.iter().filter(|booking| self.holds(booking, minute) && booking.path.contains(&link));
         self.links[link as usize].capacity as i64 - held.map(|booking| booking.bandwidth as i64).sum::<i64>()
     }
 
     /// The residual bandwidth of every link in a minute.
     pub fn residuals(&self, minute: u32) -> Vec<i64> {
         let mut row: Vec<i64> = self.links.iter().map(|link| link.capacity as i64).collect();
-        for booking in self.bookings.iter().filter(|booking| booking.holds(minute)) {
+        for booking in self.bookings.iter().filter(|booking| self.holds(booking, minute)) {
             booking.path.iter().for_each(|&link| row[link as usize] -= booking.bandwidth as i64);
         }
         row
     }
 
-    /// The clock and every later start and end, each once, rising.
+    /// The clock and every later start and guarded end, each once, rising.
     pub fn events(&self) -> Vec<u32> {
-        let mut events: Vec<u32> = self.bookings.iter().flat_map(|booking| [booking.start, booking.end()]).collect();
+        let mut events: Vec<u32> =
+            self.bookings.iter().flat_map(|booking| [booking.start, self.guarded_end(booking)]).collect();
         events.retain(|&minute| minute > self.clock);
         events.push(self.clock);
         events.sort();
@@ -209,7 +220,7 @@ impl Desk {
         request.earliest.max(self.clock)
     }
 
-    /// The earliest minute of the window at which a path is free throughout, with the best path there: every minute of the
+    /// The earliest minute of the window at which a path is free throughout the guarded span, with the best path there: every minute of the
     /// window is tried in turn.
     pub fn choose(&self, request: &Request, walk: Walk) -> Option<Start> {
         let mut trial = Trial::new(self, request);
@@ -236,7 +247,7 @@ impl Desk {
 
     /// The last minute of a window that is tried.
     pub fn last_tried(&self, request: &Request, walk: Walk) -> u32 {
-        let last_event = self.bookings.iter().map(Booking::end).max().unwrap_or(self.clock);
+        let last_event = self.bookings.iter().map(|booking| self.guarded_end(booking)).max().unwrap_or(self.clock);
         match walk {
             Walk::ToLastEvent => request.latest.min(self.low(request).max(last_event)),
             Walk::ToLatest => request.latest,
@@ -244,10 +255,10 @@ impl Desk {
     }
 
     /// The spans of minutes, from one to before another, in which the link has less than the bandwidth left. What is left
-    /// only changes where a booking starts or ends.
+    /// only changes where a booking starts or its guard ends.
     fn short_spans(&self, link: u32, bandwidth: u32) -> Vec<(u32, u32)> {
         let on_link = self.bookings.iter().filter(|booking| booking.path.contains(&link));
-        let mut changes: Vec<u32> = on_link.flat_map(|booking| [booking.start, booking.end()]).collect();
+        let mut changes: Vec<u32> = on_link.flat_map(|booking| [booking.start, self.guarded_end(booking)]).collect();
         changes.extend([0, u32::MAX]);
         changes.sort();
         let spans = changes.windows(2).map(|pair| (pair[0], pair[1]));
@@ -305,9 +316,9 @@ impl Trial<'_> {
         Trial { desk, request: *request, short, searched: None }
     }
 
-    /// The best path over the links that have the bandwidth in every minute of the span that starts here.
+    /// The best path over the links that have the bandwidth in every minute of the guarded span that starts here.
     pub fn path_at(&mut self, minute: u32) -> Option<&Vec<u32>> {
-        let end = minute + self.request.duration;
+        let end = minute + self.request.duration + self.desk.guard;
         let usable = self.short.iter().map(|spans| !spans.iter().any(|&(from, to)| from < end && minute < to));
         let usable = usable.enumerate().fold(0u64, |set, (link, free)| set | (free as u64) << link);
         if self.searched.as_ref().map(|&(set, _)| set) != Some(usable) {

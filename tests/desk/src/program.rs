@@ -13,7 +13,7 @@ use std::time::Duration;
 
 use support::Random;
 
-use crate::calls::Style;
+use crate::calls::{guard, Style};
 use crate::lines::{output, LINK_BYTES, ORDER_BYTES};
 use crate::sessions::orders_file;
 
@@ -255,16 +255,18 @@ extern "C" {
     fn fcntl(file: i32, command: i32, ...) -> i32;
 }
 
-/// The input of a session with so many orders of one style, and its lines.
+/// The input of a session under any guard with so many orders of one style, and its lines.
 pub fn told(seed: u64, style: Style, orders: u64) -> (Vec<u8>, String) {
-    let input = orders_file(&mut Random::new(seed), style, orders);
+    let random = &mut Random::new(seed);
+    let guard = guard(random);
+    let input = orders_file(random, style, guard, orders);
     let lines = output(&input);
     (input, lines)
 }
 
 /// How many bytes stand before the orders of a session.
 pub fn first_bytes(input: &[u8]) -> usize {
-    1 + LINK_BYTES * input[0] as usize
+    2 + LINK_BYTES * input[0] as usize
 }
 
 /// Whether the lines of a block's orders are more than the program holds.

@@ -2,25 +2,27 @@
 
 use support::Random;
 
-use crate::calls::{bad_link, call, fills, first_minute, listed, net, order, pick, style, suits, Style};
+use crate::calls::{bad_link, call, fills, first_minute, guard, listed, net, order, pick, style, suits, Style};
 use crate::lines::{answer, link_bytes, opening, order_bytes, read_order};
 use crate::plain::{Answer, Call, Desk};
-use crate::{Link, Request, BOOKINGS, LINKS, MAX_CAPACITY, PATH_LINKS};
+use crate::{Link, Request, BOOKINGS, LINKS, MAX_CAPACITY, MAX_GUARD, PATH_LINKS};
 
-/// The input of a session. One in twelve stops at its head; one in four ends in a piece of 1 to 15 bytes.
+/// The input of a session. One in ten stops at its head; one in four ends in a piece of 1 to 15 bytes.
 pub fn session(seed: u64) -> Vec<u8> {
     let mut random = Random::new(seed);
     let style = style(&mut random);
-    if random.once_in(12) {
+    if random.once_in(10) {
         let links = net(&mut random, style);
-        return damaged_head(&mut random, &links);
+        let guard = guard(&mut random);
+        return damaged_head(&mut random, &links, guard);
     }
     let orders = match random.below(25) {
         0 => random.within(300, 600),
         _ if fills(style) => random.within(70, 160),
         _ => random.within(0, 80),
     };
-    let mut bytes = orders_file(&mut random, style, orders);
+    let guard = guard(&mut random);
+    let mut bytes = orders_file(&mut random, style, guard, orders);
     if random.once_in(4) {
         let piece = order_bytes(&Call::Cancel(1));
         bytes.extend(&piece[..random.within(1, 15) as usize]);
@@ -33,12 +35,14 @@ pub fn long_session(seed: u64) -> Vec<u8> {
     let mut random = Random::new(seed);
     let style = style(&mut random);
     let orders = random.within(8_300, 9_500);
-    orders_file(&mut random, style, orders)
+    let guard = guard(&mut random);
+    orders_file(&mut random, style, guard, orders)
 }
 
-/// The bytes of a valid head and of so many orders, a few of them damaged, each suited to what the desk then holds.
-pub fn orders_file(random: &mut Random, style: Style, orders: u64) -> Vec<u8> {
-    let mut bytes = head_bytes(&net(random, style));
+/// The bytes of a valid head with this guard and of so many orders, a few of them damaged, each suited to what the desk then
+/// holds.
+pub fn orders_file(random: &mut Random, style: Style, guard: u32, orders: u64) -> Vec<u8> {
+    let mut bytes = head_bytes(&net(random, style), guard);
     let (mut desk, _) = opening(&bytes).expect("a valid head");
     let mut piece = order_bytes(&Call::MoveClock(first_minute(random, style)));
     for _ in 0..orders {
@@ -52,12 +56,12 @@ pub fn orders_file(random: &mut Random, style: Style, orders: u64) -> Vec<u8> {
     bytes
 }
 
-/// The fullest desk: 64 links, 64 bookings of 31 links each, and 129 events.
+/// The fullest desk: 64 links, 64 bookings of 31 links each, and 129 events; no guard.
 pub fn fullest() -> Desk {
     let hops = PATH_LINKS as u32;
     let chain = |link: u32| Link { from: link % hops, to: link % hops + 1, capacity: MAX_CAPACITY };
     let links: Vec<Link> = (0..LINKS as u32).map(chain).collect();
-    let mut desk = Desk::set_up(&links).expect("valid links");
+    let mut desk = Desk::set_up(&links, 0).expect("valid links");
     for number in 1..=BOOKINGS as u32 {
         let request = Request { from: 0, to: hops, bandwidth: 10_000, duration: 999, earliest: number, latest: number };
         desk.book(number, &request).expect("room for 64 bookings");
@@ -65,31 +69,36 @@ pub fn fullest() -> Desk {
     desk
 }
 
-fn head_bytes(links: &[Link]) -> Vec<u8> {
-    let mut bytes = vec![links.len() as u8];
+fn head_bytes(links: &[Link], guard: u32) -> Vec<u8> {
+    let mut bytes = vec![links.len() as u8, guard as u8];
     links.iter().for_each(|link| bytes.extend(link_bytes(link)));
     bytes
 }
 
 /// A head with one or two damages, sometimes with an order behind it; or no byte at all.
-fn damaged_head(random: &mut Random, links: &[Link]) -> Vec<u8> {
+fn damaged_head(random: &mut Random, links: &[Link], guard: u32) -> Vec<u8> {
     if random.once_in(8) {
         return Vec::new();
     }
-    let mut bytes = head_bytes(links);
+    let mut bytes = head_bytes(links, guard);
     if random.once_in(2) {
         bytes.extend(order_bytes(&Call::Cancel(1)));
     }
-    let some_link = |random: &mut Random| 1 + 8 * random.below(links.len() as u64) as usize;
+    let some_link = |random: &mut Random| 2 + 8 * random.below(links.len() as u64) as usize;
     for _ in 0..random.within(1, 2) {
-        match random.below(5) {
+        match random.below(8) {
             0 => bytes[0] = *pick(random, &[0, LINKS as u8 + 1, 200, 255]),
-            1 => bytes.truncate(random.within(1, 8 * links.len() as u64) as usize),
-            2 => {
+            1 => bytes.truncate(random.within(2, 1 + 8 * links.len() as u64) as usize),
+            2 => bytes.truncate(1),
+            3 => {
+                let long = random.within(MAX_GUARD as u64 + 1, 255) as u8;
+                bytes.iter_mut().skip(1).take(1).for_each(|byte| *byte = long);
+            }
+            4 => {
                 let bit = random.within(30, 63) as usize;
                 flip(&mut bytes, some_link(random) * 8 + bit);
             }
-            3 => {
+            5 | 6 => {
                 let record = link_bytes(&bad_link(random));
                 let place = some_link(random);
                 bytes.iter_mut().skip(place).zip(record).for_each(|(byte, new)| *byte = new);
@@ -131,11 +140,12 @@ pub struct History {
 }
 
 impl History {
-    /// The history behind a set-up with the links of `desk`, which is accepted.
+    /// The history behind a set-up with the links and the guard of `desk`, which is accepted.
     pub fn new(seed: u64) -> History {
         let mut random = Random::new(seed);
         let style = style(&mut random);
-        let desk = Desk::set_up(&net(&mut random, style)).expect("a valid net");
+        let links = net(&mut random, style);
+        let desk = Desk::set_up(&links, guard(&mut random)).expect("a valid net and guard");
         History { random, style, just_set_up: true, desk }
     }
 

@@ -2,7 +2,8 @@
 
 use crate::plain::{valid_link, valid_number, Booking, Desk};
 use crate::{Head, Link};
-use crate::{BOOKINGS, EVENTS, LINKS, MAX_BANDWIDTH, MAX_DURATION, MAX_MINUTE, PATH_LINKS, PLACE, ROW};
+use crate::{BOOKINGS, EVENTS, LINKS, PATH_LINKS, PLACE, ROW};
+use crate::{MAX_BANDWIDTH, MAX_DURATION, MAX_GUARD, MAX_MINUTE};
 
 #[derive(Clone, Debug, PartialEq, Eq)]
 pub struct Tables {
@@ -16,7 +17,7 @@ impl Tables {
     /// Tables of the right sizes, with the same figure everywhere.
     pub fn filled_with(figure: u32) -> Tables {
         Tables {
-            head: Head { clock: figure, links: figure, bookings: figure },
+            head: Head { clock: figure, links: figure, bookings: figure, guard: figure },
             events: vec![figure; EVENTS],
             free: vec![figure; EVENTS * ROW],
             book: vec![figure; BOOKINGS * PLACE],
@@ -32,7 +33,8 @@ pub fn of(desk: &Desk) -> Tables {
 /// The tables of a desk, whose book may break a rule, with a free figure for each residual bandwidth.
 pub fn written(desk: &Desk, figure: impl Fn(i64) -> u32) -> Tables {
     let mut tables = Tables::filled_with(0);
-    tables.head = Head { clock: desk.clock, links: desk.links.len() as u32, bookings: desk.bookings.len() as u32 };
+    let (links, bookings) = (desk.links.len() as u32, desk.bookings.len() as u32);
+    tables.head = Head { clock: desk.clock, links, bookings, guard: desk.guard };
     for (row, minute) in desk.events().into_iter().enumerate() {
         tables.events[row] = minute;
         for (link, residual) in desk.residuals(minute).into_iter().enumerate() {
@@ -64,28 +66,31 @@ pub fn sound(links: &[Link], tables: &Tables) -> bool {
     read(links, tables).is_ok()
 }
 
-/// The desk of the head's clock and the book's used places, if links, clock and each of these bookings obey the rules.
+/// The desk of the head's guard and clock and the book's used places, if links, guard, clock and each of these bookings obey
+/// the rules.
 fn read_book(links: &[Link], tables: &Tables) -> Option<Desk> {
-    let clock = tables.head.clock;
-    let count = tables.head.bookings as usize;
-    if clock > MAX_MINUTE || count > BOOKINGS || !links.iter().all(valid_link) {
+    let Head { clock, bookings: count, guard, .. } = tables.head;
+    let count = count as usize;
+    if clock > MAX_MINUTE || guard > MAX_GUARD || count > BOOKINGS || !links.iter().all(valid_link) {
         return None;
     }
     let places = tables.book.chunks(PLACE).take(count);
-    let bookings = places.map(|place| read_booking(links, clock, place)).collect::<Option<Vec<Booking>>>()?;
+    let bookings = places.map(|place| read_booking(links, place)).collect::<Option<Vec<Booking>>>()?;
     let rising = bookings.windows(2).all(|pair| pair[0].number < pair[1].number);
-    rising.then(|| Desk { links: links.to_vec(), clock, bookings })
+    let desk = Desk { links: links.to_vec(), guard, clock, bookings };
+    let all_stand = desk.bookings.iter().all(|booking| desk.guarded_end(booking) > clock);
+    (rising && all_stand).then_some(desk)
 }
 
-/// A place of the book, if its booking is in range, still stands at the clock and has a path.
-fn read_booking(links: &[Link], clock: u32, place: &[u32]) -> Option<Booking> {
+/// A place of the book, if its booking is in range and has a path.
+fn read_booking(links: &[Link], place: &[u32]) -> Option<Booking> {
     let &[number, start, duration, bandwidth, count, ref path @ ..] = place else { return None };
     let in_range = valid_number(number)
         && start <= MAX_MINUTE
         && (1..=MAX_DURATION).contains(&duration)
         && (1..=MAX_BANDWIDTH).contains(&bandwidth)
         && (1..=PATH_LINKS as u32).contains(&count);
-    if !in_range || start + duration <= clock {
+    if !in_range {
         return None;
     }
     let path = path[..count as usize].to_vec();

@@ -21,6 +21,8 @@ struct Counts {
     earlier: u32,
     same: u32,
     by_another_path: u32,
+    /// Earlier, where the cancelled booking had ended and was in its guard.
+    earlier_by_its_guard: u32,
     tried_at_every_minute: u32,
 }
 
@@ -54,7 +56,7 @@ fn no_offer_is_later_after_a_cancellation() {
     for seed in SEED..SEED + HISTORIES {
         let (mut random, _seed) = (Random::new(seed), Seed(seed));
         let mut history = History::new(seed);
-        let mut held = fresh(&history.desk.links, &mut random);
+        let mut held = fresh(&history.desk, &mut random);
         for step in 0..STEPS {
             let links = history.desk.links.clone();
             let (call, answer) = history.step();
@@ -62,6 +64,7 @@ fn no_offer_is_later_after_a_cancellation() {
             let (request, desk) = (history.listed(), &history.desk);
             let Ok(offered) = exported::offer(&desk.links, &held, &request) else { continue };
             for number in some_standing(&mut random, desk) {
+                let in_guard = desk.bookings.iter().any(|one| one.number == number && one.end() <= desk.clock);
                 let what = format!("seed {seed:#x}, step {step}, {request:?} without booking {number}");
                 let again = offer_without(&desk.links, &held, number, &request);
                 if let Some(expected) = by_every_minute(desk, number, &request) {
@@ -69,7 +72,10 @@ fn no_offer_is_later_after_a_cancellation() {
                     counts.tried_at_every_minute += 1;
                 }
                 match again {
-                    Ok(start) if start.minute < offered.minute => counts.earlier += 1,
+                    Ok(start) if start.minute < offered.minute => {
+                        counts.earlier += 1;
+                        counts.earlier_by_its_guard += in_guard as u32;
+                    }
                     Ok(start) if start == offered => counts.same += 1,
                     Ok(start) if start.minute == offered.minute => counts.by_another_path += 1,
                     later => panic!("{what}: {offered:?} before, {later:?} after"),
@@ -78,7 +84,14 @@ fn no_offer_is_later_after_a_cancellation() {
         }
     }
     println!("offers after a cancellation: {counts:?}");
-    let Counts { earlier, same, by_another_path, tried_at_every_minute } = counts;
-    let enough = earlier >= 10_000 && same >= 100_000 && by_another_path >= 4_000 && tried_at_every_minute >= 100_000;
-    assert!(enough, "{counts:?}");
+    let enough = [
+        ("earlier", counts.earlier, 10_000),
+        ("the same", counts.same, 100_000),
+        ("by another path", counts.by_another_path, 4_000),
+        ("earlier by the guard of the cancelled one", counts.earlier_by_its_guard, 200),
+        ("tried at every minute", counts.tried_at_every_minute, 100_000),
+    ];
+    for (what, count, least) in enough {
+        assert!(count >= least, "{what}: {count} of {least}, seeds from {SEED:#x}");
+    }
 }

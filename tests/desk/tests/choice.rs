@@ -1,6 +1,7 @@
 //! The choice and the listing of the independent desk against others: the same by their words, minute by minute and span by
 //! span; with candidate minutes only; and paths found by listing all of them.
 
+use desk_tests::calls::often_short_guard;
 use desk_tests::listings;
 use desk_tests::plain::{best_path, Booking, Desk, Range, Start, Walk};
 use desk_tests::{Link, Request};
@@ -32,11 +33,11 @@ fn best(links: &[Link], usable: &dyn Fn(u32) -> bool, from: u32, to: u32) -> Opt
     paths(links, usable, from, to, &mut Vec::new()).into_iter().min_by_key(|path| (path.len(), path.clone()))
 }
 
-/// The choice in document 01's words: every minute of the window, every minute of the span.
+/// The choice in the words of documents 01 and 02: every minute of the window, every minute of the guarded span.
 fn literal(desk: &Desk, request: &Request) -> Option<Start> {
     (desk.low(request)..=request.latest).find_map(|minute| {
-        let enough =
-            |link: u32| (minute..minute + request.duration).all(|m| desk.residual(link, m) >= request.bandwidth as i64);
+        let end = minute + request.duration + desk.guard;
+        let enough = |link: u32| (minute..end).all(|m| desk.residual(link, m) >= request.bandwidth as i64);
         best(&desk.links, &enough, request.from, request.to).map(|path| Start { minute, path })
     })
 }
@@ -45,8 +46,8 @@ fn literal(desk: &Desk, request: &Request) -> Option<Start> {
 /// other minute is in any, the ranges rise, and each is as long as it can be.
 fn right_listing(desk: &Desk, request: &Request, ranges: &[Range]) -> bool {
     let possible = |minute: u32| {
-        let enough =
-            |link: u32| (minute..minute + request.duration).all(|m| desk.residual(link, m) >= request.bandwidth as i64);
+        let end = minute + request.duration + desk.guard;
+        let enough = |link: u32| (minute..end).all(|m| desk.residual(link, m) >= request.bandwidth as i64);
         !paths(&desk.links, &enough, request.from, request.to, &mut Vec::new()).is_empty()
     };
     let (low, latest) = (desk.low(request), request.latest);
@@ -61,13 +62,14 @@ fn right_listing(desk: &Desk, request: &Request, ranges: &[Range]) -> bool {
         && ranges.windows(2).all(|pair| pair[0].first < pair[1].first)
 }
 
-/// The choice among low and the events in the window, over the events of the span.
+/// The choice among low and the events in the window, over the events of the guarded span.
 fn by_candidates(desk: &Desk, request: &Request) -> Option<Start> {
     let low = desk.low(request);
     let events = desk.events();
     let later = events.iter().copied().filter(|&event| event > low && event <= request.latest);
     std::iter::once(low).chain(later).find_map(|minute| {
-        let in_span = |event: &&u32| minute < **event && **event < minute + request.duration;
+        let end = minute + request.duration + desk.guard;
+        let in_span = |event: &&u32| minute < **event && **event < end;
         let enough = |link: u32| {
             let inside = events.iter().filter(in_span).copied();
             inside.chain([minute]).all(|m| desk.residual(link, m) >= request.bandwidth as i64)
@@ -89,7 +91,8 @@ fn net(random: &mut Random, nodes: u64, links: u64) -> Vec<Link> {
 fn busy(random: &mut Random, breadth: u64) -> Desk {
     let (nodes, links) = (random.within(2, 5), random.within(1, 9));
     let links = net(random, nodes, links);
-    let mut desk = Desk { links, clock: 0, bookings: Vec::new() };
+    let guard = often_short_guard(random);
+    let mut desk = Desk { links, guard, clock: 0, bookings: Vec::new() };
     for number in 1..=random.below(12) as u32 {
         let from = random.below(desk.links.len() as u64) as u32;
         let mut path = vec![from];
@@ -100,7 +103,7 @@ fn busy(random: &mut Random, breadth: u64) -> Desk {
         }
         let (start, duration) = (random.below(breadth) as u32, random.within(1, breadth) as u32);
         let fits = |&bandwidth: &u32| {
-            let span = start..start + duration;
+            let span = start..start + duration + guard;
             path.iter().all(|&link| span.clone().all(|minute| desk.residual(link, minute) >= bandwidth as i64))
         };
         if let Some(bandwidth) = Some(random.within(1, 8) as u32).filter(fits) {
@@ -166,7 +169,7 @@ fn gapped(random: &mut Random) -> (Desk, Request) {
 #[test]
 fn ranges_agree_with_the_words() {
     let mut by_count = [0; 5];
-    for turn in 0..20_000 {
+    for turn in 0..30_000 {
         let seed = SEED + 0x20_0000 + turn;
         let mut random = Random::new(seed);
         let (desk, request) = if turn % 2 == 0 { small(&mut random) } else { gapped(&mut random) };

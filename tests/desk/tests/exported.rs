@@ -1,14 +1,15 @@
 //! The exported calls of the proved desk against the independent one: every answer, and every figure of every table after
 //! each call.
 
-use desk_tests::calls::{list_size, pick};
+use desk_tests::calls::{bad_link, guard, list_size, long_guard, net, pick, style};
 use desk_tests::cases::cases;
-use desk_tests::damages::{damage, forged};
+use desk_tests::damages::{damage, forged, other_guards, resize};
 use desk_tests::exported::{self, fresh};
+use desk_tests::guards;
 use desk_tests::plain::{Answer, Call, Desk};
 use desk_tests::sessions::History;
 use desk_tests::tables::{self, Tables};
-use desk_tests::{listings, Link, Request, LIST_FIGURES};
+use desk_tests::{listings, Link, Request, LIST_FIGURES, MAX_GUARD};
 use support::{Random, Seed};
 
 const SEED: u64 = 0xDE5_C000;
@@ -27,8 +28,8 @@ fn same(links: &[Link], held: &mut Tables, call: &Call, expected: &Answer, desk:
 #[test]
 fn the_worked_examples() {
     for case in cases() {
-        let mut desk = Desk::set_up(&case.links).expect("valid links");
-        let mut held = fresh(&case.links, &mut Random::new(SEED));
+        let mut desk = Desk::set_up(&case.links, case.guard).expect("valid links and guard");
+        let mut held = fresh(&desk, &mut Random::new(SEED));
         for (call, answer) in &case.steps {
             let links = desk.links.clone();
             assert_eq!(desk.answer(call), *answer, "{}", case.name);
@@ -39,24 +40,25 @@ fn the_worked_examples() {
 
 #[test]
 fn random_histories() {
-    let (mut calls, mut sampled, mut counts) = (0u32, 0u32, Listings::default());
+    let (mut calls, mut sampled, mut counts, mut guards) = (0u32, 0u32, Listings::default(), guards::Counts::default());
     for seed in SEED.. {
         let (mut random, _seed) = (Random::new(seed), Seed(seed));
         let mut history = History::new(seed);
-        let mut held = fresh(&history.desk.links, &mut random);
+        let mut held = fresh(&history.desk, &mut random);
         for step in 0..500 {
             let what = format!("seed {seed:#x}, step {step}");
-            let links = history.desk.links.clone();
+            let before = history.desk.clone();
             let (call, answer) = history.step();
-            same(&links, &mut held, &call, &answer, &history.desk, &what);
+            same(&before.links, &mut held, &call, &answer, &history.desk, &what);
             counts.add(&call, &answer);
+            guards.add(&before, &call, &answer, &history.desk);
             if random.once_in(10) {
                 let request = history.listed();
                 sampled += right_listing(&mut random, &history.desk, &mut held, &request, &what);
             }
             calls += 1;
         }
-        if calls >= 200_000 {
+        if calls >= 240_000 {
             break;
         }
     }
@@ -66,6 +68,28 @@ fn random_histories() {
     println!("refused listings: {} refused 13, {} refused 4, {} refused 5", refused[13], refused[4], refused[5]);
     assert!(accepted >= 10_000 && several >= 500 && sampled >= 10_000, "{accepted}, {several}, {sampled}");
     assert!([4, 5, 13].iter().all(|&refusal: &usize| refused[refusal] >= 100), "{refused:?}");
+    println!("calls by guard: {:?}", guards.by_guard);
+    println!("{}", guards.of_calls());
+    let enough = [
+        ("calls under each guard", *guards.by_guard.iter().min().expect("a guard"), 5_000),
+        ("moved by a guard", guards.moved, 1_000),
+        ("led over other links by a guard", guards.led_over_other_links, 100),
+        ("refused 8 by a guard", guards.refused, 300),
+        ("refused 6 by a number in its guard", guards.number_in_guard, 300),
+        ("refused 7 by bookings in their guard", guards.full_by_guards, 300),
+        ("clock moves that keep a booking in its guard", guards.kept, 1_000),
+        ("clock moves to the end of a guard", guards.moved_to_guarded_end, 300),
+        ("cancelled in its guard", guards.cancelled_in_guard, 300),
+        ("listed otherwise by a guard", guards.listed_otherwise, 1_000),
+        ("less shown by a guard", guards.less_shown, 300),
+        ("shown behind minute 1,000,525,600", guards.late_shown, 300),
+        ("shown at the last minute", guards.last_shown, 300),
+        ("refused past the last minute", guards.past_last, 300),
+        ("held behind minute 1,000,525,599", guards.late_guards, 20),
+    ];
+    for (what, count, least) in enough {
+        assert!(count >= least, "{what}: {count} of {least}, seeds from {SEED:#x}");
+    }
 }
 
 /// How often the calls were listings, and what these answered.
@@ -181,14 +205,106 @@ fn damaged_and_forged_tables() {
     assert!(sizes > 1_000 && lists > 1_000 && unsound > 10_000, "{by_refusal:?}");
 }
 
+/// The head's guard changed to each other one, on tables of any bookings: refused 3 if some stand or it is above 15, else a
+/// desk with that guard.
+#[test]
+fn damages_of_the_guard() {
+    let mut random = Random::new(SEED + 2);
+    let (mut sound, mut with_bookings, mut too_long) = (0u32, 0u32, 0u32);
+    for seed in SEED..SEED + 200 {
+        let _seed = Seed(seed);
+        let mut history = History::new(seed);
+        for step in 0..30 {
+            history.step();
+            let desk = &history.desk;
+            for guard in other_guards(desk.guard) {
+                let mut held = tables::of(desk);
+                held.head.guard = guard;
+                let call = any_call(&mut random, desk);
+                let refusal =
+                    judged(&desk.links, &mut held, &call, &format!("seed {seed:#x}, step {step}, guard {guard}"));
+                let accepted = guard <= MAX_GUARD && desk.bookings.is_empty();
+                assert_eq!(refusal == 0, accepted, "seed {seed:#x}, step {step}, guard {guard}: {call:?}");
+                let count = match (accepted, guard > MAX_GUARD) {
+                    (true, _) => &mut sound,
+                    (false, true) => &mut too_long,
+                    (false, false) => &mut with_bookings,
+                };
+                *count += 1;
+            }
+        }
+    }
+    println!("another guard: {with_bookings} refused with bookings, {too_long} refused above 15, {sound} sound");
+    assert!(sound > 1_000 && with_bookings > 10_000 && too_long > 10_000, "{sound}, {with_bookings}, {too_long}");
+}
+
+/// The refusals of a set-up, in the order in which they are tried.
+const SET_UP_REFUSALS: [u32; 3] = [1, 4, 2];
+
+/// Every set of reasons to refuse a set-up, on tables of any figures: the first reason is answered and nothing is written.
+/// With none the tables are those of an empty desk with that guard.
+#[test]
+fn set_ups() {
+    let (mut by_refusal, mut by_guard) = ([[0u32; 5]; 1 << SET_UP_REFUSALS.len()], [0u32; guards::GUARDS]);
+    for seed in SEED..SEED + 2_000 {
+        let (mut random, _seed) = (Random::new(seed), Seed(seed));
+        let style = style(&mut random);
+        for reasons in 0..1 << SET_UP_REFUSALS.len() {
+            let has =
+                |refusal| SET_UP_REFUSALS.iter().position(|&one| one == refusal).is_some_and(|i| reasons >> i & 1 == 1);
+            let (mut links, mut held) = (net(&mut random, style), any_tables(&mut random, seed));
+            if has(2) {
+                let bad = random.below(links.len() as u64) as usize;
+                links[bad] = bad_link(&mut random);
+            }
+            if has(1) {
+                resize(&mut random, &mut links, &mut held);
+            }
+            let guard = if has(4) { long_guard(&mut random) } else { guard(&mut random) };
+            let what = format!("seed {seed:#x}, reasons {reasons:#b}, {} links, guard {guard}", links.len());
+            let before = held.clone();
+            let refusal = exported::set_up(&links, &mut held, guard).err().unwrap_or(0);
+            let expected = SET_UP_REFUSALS.into_iter().find(|&refusal| has(refusal)).unwrap_or(0);
+            assert_eq!(refusal, expected, "{what}");
+            match Desk::set_up(&links, guard) {
+                Ok(desk) if refusal == 0 => {
+                    assert!(held == tables::of(&desk), "{what}: other tables");
+                    by_guard[guard as usize] += 1;
+                }
+                _ => assert!(held == before, "{what}: a refused set-up writes"),
+            }
+            by_refusal[reasons][refusal as usize] += 1;
+        }
+    }
+    for (reasons, counts) in by_refusal.iter().enumerate() {
+        let reasons: Vec<u32> = (0..3).filter(|i| reasons >> i & 1 == 1).map(|i| SET_UP_REFUSALS[i]).collect();
+        let [accepted, sizes, links, _, guards] = counts;
+        println!("reasons {reasons:?}: {sizes} refused 1, {guards} refused 4, {links} refused 2, {accepted} accepted");
+    }
+    println!("accepted by guard: {by_guard:?}");
+    assert!(by_guard.iter().all(|&count| count >= 50), "{by_guard:?}");
+}
+
+/// Tables that hold one figure everywhere, or the desk of some history.
+fn any_tables(random: &mut Random, seed: u64) -> Tables {
+    if random.once_in(2) {
+        return Tables::filled_with(random.next() as u32);
+    }
+    let mut history = History::new(seed);
+    (0..random.below(20)).for_each(|_| {
+        history.step();
+    });
+    tables::of(&history.desk)
+}
+
 #[test]
 fn two_histories_to_the_same_bookings() {
     let mut detours = 0u32;
     for seed in SEED + 2..SEED + 202 {
         let _seed = Seed(seed);
         let mut history = History::new(seed);
-        let mut straight = fresh(&history.desk.links, &mut Random::new(seed));
-        let mut around = fresh(&history.desk.links, &mut Random::new(seed + 1));
+        let mut straight = fresh(&history.desk, &mut Random::new(seed));
+        let mut around = fresh(&history.desk, &mut Random::new(seed + 1));
         for step in 0..100 {
             let links = history.desk.links.clone();
             for (call, answer) in history.detour().into_iter().flatten() {

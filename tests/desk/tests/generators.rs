@@ -1,12 +1,13 @@
 //! What the generated sessions, histories and damages contain, and that the tables of a history are sound.
 
-use desk_tests::damages::{damage, forged};
+use desk_tests::damages::{damage, forged, other_guards};
+use desk_tests::guards;
 use desk_tests::lines::{answer, line, opening, output, read_order};
 use desk_tests::listings::{self, KINDS};
 use desk_tests::plain::{Answer, Booking, Call, Desk};
 use desk_tests::sessions::{fullest, session, History};
 use desk_tests::tables::{self, Tables};
-use desk_tests::{Link, MAX_DURATION, MAX_MINUTE};
+use desk_tests::{Link, MAX_DURATION, MAX_GUARD, MAX_MINUTE};
 use support::Random;
 
 const SESSIONS: u64 = 3_000;
@@ -93,7 +94,7 @@ impl Counts {
 
 #[test]
 fn sessions_cover_everything() {
-    let mut counts = Counts::default();
+    let (mut counts, mut guards) = (Counts::default(), guards::Counts::default());
     for seed in SEED..SEED + SESSIONS {
         let input = session(seed);
         let text = output(&input);
@@ -113,17 +114,22 @@ fn sessions_cover_everything() {
             let before = desk.clone();
             let answer = answer(&mut desk, piece);
             counts.order(&before, &desk, piece, &answer);
+            if let Ok(call) = read_order(piece) {
+                guards.add(&before, &call, &answer, &desk);
+            }
             assert_eq!(lines.next(), Some(line(place + 1, piece, &answer).as_str()), "seed {seed:#x}");
         }
         assert_eq!(lines.next(), None, "seed {seed:#x}");
     }
     println!("{counts:#?}");
+    println!("orders by guard: {:?}", guards.by_guard);
+    println!("{}", guards.of_orders());
     let Counts { refused, desk_refused, .. } = &counts;
     for refusal in 4..=12 {
         assert!(refused[refusal] >= 300, "refusal {refusal}: {}", refused[refusal]);
     }
     assert_eq!(refused[..4], [0; 4]);
-    for refusal in [1, 2, 11, 12] {
+    for refusal in [1, 2, 4, 11, 12] {
         assert!(desk_refused[refusal] >= 20, "desk refused {refusal}: {}", desk_refused[refusal]);
     }
     let enough = [
@@ -150,6 +156,15 @@ fn sessions_cover_everything() {
         ("long sessions", counts.long_sessions, 50),
         ("cut-off ends", counts.cut_off, 300),
         ("empty input", counts.empty, 10),
+        ("moved by a guard", guards.moved, 1_000),
+        ("led over other links by a guard", guards.led_over_other_links, 100),
+        ("refused 8 by a guard", guards.refused, 300),
+        ("refused 6 by a number in its guard", guards.number_in_guard, 300),
+        ("refused 7 by bookings in their guard", guards.full_by_guards, 300),
+        ("clock moves that keep a booking in its guard", guards.kept, 1_000),
+        ("clock moves to the end of a guard", guards.moved_to_guarded_end, 300),
+        ("cancelled in its guard", guards.cancelled_in_guard, 300),
+        ("held behind minute 1,000,525,599", guards.late_guards, 20),
     ];
     for (what, count, least) in enough {
         assert!(count >= least, "{what}: {count} of {least}, seeds from {SEED:#x}");
@@ -167,15 +182,18 @@ fn the_same_seed_gives_the_same_session() {
 fn tables_of_histories_are_sound_and_read_back() {
     let mut calls = [0; 7];
     let mut refused = [0; 14];
-    for seed in SEED..SEED + 100 {
+    let mut guards = guards::Counts::default();
+    for seed in SEED..SEED + 160 {
         let mut history = History::new(seed);
         for step in 0..400 {
+            let before = history.desk.clone();
             let (call, answer) = history.step();
+            guards.add(&before, &call, &answer, &history.desk);
             let tables = tables::of(&history.desk);
             let read = tables::read(&history.desk.links, &tables);
             assert_eq!(read.as_ref().map(tables::of), Ok(tables), "seed {seed:#x}, step {step}: {call:?}");
             let kind = match call {
-                Call::SetUp(_) => 0,
+                Call::SetUp { .. } => 0,
                 Call::Book(..) => 1,
                 Call::Offer(_) => 2,
                 Call::Cancel(_) => 3,
@@ -195,6 +213,9 @@ fn tables_of_histories_are_sound_and_read_back() {
         }
     }
     println!("calls by kind: {calls:?}, refusals: {refused:?}");
+    println!("calls by guard: {:?}", guards.by_guard);
+    println!("{}", guards.of_calls());
+    assert!(guards.by_guard.iter().all(|&count| count >= 1_000), "{guards:?}");
     assert!(calls.iter().all(|&count| count >= 50), "{calls:?}");
     assert!([1, 2, 4, 5, 6, 7, 8, 9, 10, 13].iter().all(|&refusal: &usize| refused[refusal] >= 10), "{refused:?}");
 }
@@ -261,6 +282,34 @@ fn damages_are_of_every_kind() {
     assert!(sizes > 500 && unsound > 10_000 && sound > 20, "{sizes}, {unsound}, {sound}");
 }
 
+/// The last event of a desk with bookings is a guarded end, so that its figures tell the guard.
+#[test]
+fn another_guard_is_sound_without_bookings_alone() {
+    let (mut sound, mut with_bookings, mut too_long) = (0, 0, 0);
+    for seed in SEED..SEED + 200 {
+        let mut history = History::new(seed);
+        for step in 0..60 {
+            history.step();
+            let mut tables = tables::of(&history.desk);
+            for guard in other_guards(history.desk.guard) {
+                tables.head.guard = guard;
+                let desk = Desk { guard, ..history.desk.clone() };
+                let expected = if guard <= MAX_GUARD && desk.bookings.is_empty() { Ok(desk) } else { Err(3) };
+                let read = tables::read(&history.desk.links, &tables);
+                assert_eq!(read, expected, "seed {seed:#x}, step {step}: guard {guard}");
+                let count = match read {
+                    Ok(_) => &mut sound,
+                    Err(_) if guard > MAX_GUARD => &mut too_long,
+                    Err(_) => &mut with_bookings,
+                };
+                *count += 1;
+            }
+        }
+    }
+    println!("another guard: {with_bookings} refused 3 with bookings, {too_long} refused 3 above 15, {sound} sound");
+    assert!(sound > 10_000 && with_bookings > 50_000 && too_long > 10_000, "{sound}, {with_bookings}, {too_long}");
+}
+
 /// Of forged tables about one in four is sound. The others are refused 3, some for nothing but an oversold link.
 #[test]
 fn forged_tables_are_of_every_kind() {
@@ -298,8 +347,10 @@ fn unsound_books() {
         bandwidth,
         path: path.to_vec(),
     };
-    let tables =
-        |clock, bookings: &[Booking]| tables::of(&Desk { links: links.clone(), clock, bookings: bookings.to_vec() });
+    let guarded = |guard, clock, bookings: &[Booking]| {
+        tables::of(&Desk { links: links.clone(), guard, clock, bookings: bookings.to_vec() })
+    };
+    let tables = |clock, bookings: &[Booking]| guarded(0, clock, bookings);
     let good = booking(5, 3, 4, 6, &[0, 1]);
     let later = |number| booking(number, 20, 4, 6, &[0, 1]);
     let cases: Vec<(&str, Tables, bool)> = vec![
@@ -323,6 +374,12 @@ fn unsound_books() {
         ("two numbers", tables(0, &[good.clone(), later(6)]), true),
         ("a clock behind the last minute", tables(MAX_MINUTE + 1, &[]), false),
         ("the last minute", tables(MAX_MINUTE, &[]), true),
+        ("the longest guard", guarded(15, 0, &[good.clone()]), true),
+        ("a guard of 16", guarded(16, 0, &[good.clone()]), false),
+        ("a guard of 16, no booking", guarded(16, 0, &[]), false),
+        ("a booking in its guard", guarded(2, 8, &[good.clone()]), true),
+        ("a booking whose guard has ended", guarded(2, 9, &[good.clone()]), false),
+        ("the last minute that is held", guarded(15, 0, &[booking(1, MAX_MINUTE, MAX_DURATION, 6, &[0])]), true),
     ];
     for (what, tables, sound) in cases {
         assert_eq!(tables::sound(&links, &tables), sound, "{what}");

@@ -2,8 +2,9 @@
 //! alone; and its refusals, alone and with others.
 
 use desk_tests::calls::list_size;
-use desk_tests::damages::damage;
+use desk_tests::damages::{damage, resize};
 use desk_tests::exported;
+use desk_tests::guards::GUARDS;
 use desk_tests::listings::{self, KINDS};
 use desk_tests::plain::{Desk, Range, Start};
 use desk_tests::tables::{self, Tables};
@@ -26,6 +27,7 @@ fn list(links: &[Link], held: &Tables, figures: usize, request: &Request, what: 
 #[derive(Default, Debug)]
 struct Counts {
     listings: u32,
+    by_guard: [u32; GUARDS],
     ranges: usize,
     most_ranges: usize,
     empty: u32,
@@ -52,6 +54,7 @@ impl Counts {
             events.iter().any(|&minute| desk.residuals(minute).iter().any(|&figure| figure == bandwidth as i64))
         };
         self.listings += 1;
+        self.by_guard[desk.guard as usize] += 1;
         self.ranges += ranges.len();
         self.most_ranges = self.most_ranges.max(ranges.len());
         self.empty += ranges.is_empty() as u32;
@@ -94,6 +97,7 @@ fn desks_of_many_kinds() {
     println!("{counts:#?}");
     let enough = [
         ("listings", counts.listings, 20_000),
+        ("listings under each guard", *counts.by_guard.iter().min().expect("a guard"), 500),
         ("empty", counts.empty, 1_000),
         ("several ranges", counts.several, 1_000),
         ("one row", counts.one_row, 1_000),
@@ -115,11 +119,17 @@ fn desks_of_many_kinds() {
     assert!(counts.most_ranges >= 20, "{counts:?}");
 }
 
-/// A booking of the last minute and a year, in a window of all minutes there are: by hand, a start ends before it.
 #[test]
 fn all_minutes_there_are() {
+    all_minutes_under(0);
+    all_minutes_under(15);
+}
+
+/// A booking of the last minute and a year, in a window of all minutes there are: by hand, a start ends with its guard before
+/// it.
+fn all_minutes_under(guard: u32) {
     let links = [Link { from: 0, to: 1, capacity: 5 }];
-    let mut desk = Desk::set_up(&links).expect("a valid link");
+    let mut desk = Desk::set_up(&links, guard).expect("a valid link and guard");
     let last =
         Request { from: 0, to: 1, bandwidth: 5, duration: MAX_DURATION, earliest: MAX_MINUTE, latest: MAX_MINUTE };
     let lists = |desk: &Desk, duration: u32, first: u32, end: u32| {
@@ -129,11 +139,11 @@ fn all_minutes_there_are() {
     };
     lists(&desk, MAX_DURATION, 0, MAX_MINUTE);
     desk.book(1, &last).expect("a free link");
-    lists(&desk, 1, 0, 999_999_999);
-    lists(&desk, 2, 0, 999_999_998);
-    lists(&desk, MAX_DURATION, 0, 999_474_400);
-    desk.move_clock(999_474_400).expect("a later minute");
-    lists(&desk, MAX_DURATION, 999_474_400, 999_474_400);
+    lists(&desk, 1, 0, 999_999_999 - guard);
+    lists(&desk, 2, 0, 999_999_998 - guard);
+    lists(&desk, MAX_DURATION, 0, 999_474_400 - guard);
+    desk.move_clock(999_474_400 - guard).expect("a later minute");
+    lists(&desk, MAX_DURATION, 999_474_400 - guard, 999_474_400 - guard);
 }
 
 /// The refusals of a listing, in the order in which they are tried.
@@ -190,20 +200,6 @@ fn unsound(random: &mut Random, desk: &Desk) -> (Vec<Link>, Tables) {
             return (links, held);
         }
     }
-}
-
-/// Gives a table, or the list of links, another size than the stated one.
-fn resize(random: &mut Random, links: &mut Vec<Link>, held: &mut Tables) {
-    let table = match random.below(5) {
-        0 => &mut held.events,
-        1 => &mut held.free,
-        2 => &mut held.book,
-        3 => return links.clear(),
-        _ => return links.resize(LINKS + 1 + random.below(3) as usize, links[0]),
-    };
-    let size = table.len();
-    let other = [0, size - 1, size + 1, size / 2, 2 * size][random.below(5) as usize];
-    table.resize(other, 0);
 }
 
 fn another_length(random: &mut Random) -> usize {

@@ -1,6 +1,6 @@
 //! The program on a pipe that stays open: each line comes as soon as its bytes have come, and none before.
 
-use desk_tests::calls::{style, Style};
+use desk_tests::calls::{guard, style, Style};
 use desk_tests::lines::{link_bytes, output, ORDER_BYTES};
 use desk_tests::program::{first_bytes, same, told, Run};
 use desk_tests::sessions::orders_file;
@@ -51,8 +51,8 @@ fn an_order_alone_is_answered() {
     for seed in SEED..SEED + SESSIONS {
         let _seed = Seed(seed);
         let random = &mut Random::new(seed);
-        let style = style(random);
-        let input = orders_file(random, style, 30);
+        let (style, guard) = (style(random), guard(random));
+        let input = orders_file(random, style, guard, 30);
         let lines = output(&input);
         let mut sent = Sent::new(&input, &lines);
         sent.send(first_bytes(&input), 1);
@@ -70,7 +70,9 @@ fn the_desk_is_answered_with_its_last_byte() {
     sent.is_silent();
     sent.send(1, 0);
     sent.is_silent();
-    sent.send(first_bytes(&input) - 2, 0);
+    sent.send(1, 0);
+    sent.is_silent();
+    sent.send(first_bytes(&input) - 3, 0);
     sent.is_silent();
     sent.send(1, 1);
     sent.is_silent();
@@ -133,8 +135,8 @@ fn pieces_of_any_size_are_answered() {
     for seed in SEED..SEED + SESSIONS {
         let _seed = Seed(seed);
         let random = &mut Random::new(seed);
-        let (style, orders) = (style(random), random.within(20, 200));
-        let input = orders_file(random, style, orders);
+        let (style, guard, orders) = (style(random), guard(random), random.within(20, 200));
+        let input = orders_file(random, style, guard, orders);
         let lines = output(&input);
         in_pieces_to(80, random, &input, &lines);
     }
@@ -171,6 +173,7 @@ fn refused(bytes: &[u8], refusal: u32) {
     assert_eq!(run.end().well(), format!("desk refused {refusal}\n"), "{bytes:?}");
 }
 
+/// The program waits for nothing behind such a count, not for the guard either.
 #[test]
 fn a_refused_count_ends_the_program() {
     for count in [0, 65, 255] {
@@ -184,13 +187,42 @@ fn a_refused_link_ends_the_program() {
     let same_ends = link_bytes(&Link { from: 1, to: 1, capacity: 10 });
     let mut more = link;
     more[7] = 1;
-    refused(&[&[2][..], &link, &same_ends].concat(), 2);
-    refused(&[&[2][..], &link, &more].concat(), 11);
+    refused(&[&[2, 0][..], &link, &same_ends].concat(), 2);
+    refused(&[&[2, 0][..], &link, &more].concat(), 11);
 
     // A bad link is refused only behind all links.
     let mut run = Run::piped();
-    run.send(&[&[2][..], &more].concat());
+    run.send(&[&[2, 0][..], &more].concat());
     run.is_silent();
     run.send(&link);
     assert_eq!(run.end().well(), "desk refused 11\n");
+}
+
+/// A guard that is too long is refused only behind all links, and after their records.
+#[test]
+fn a_refused_guard_ends_the_program() {
+    let link = link_bytes(&Link { from: 0, to: 1, capacity: 10 });
+    let mut more = link;
+    more[7] = 1;
+    for (last, refusal) in [(link, 4), (more, 11)] {
+        let mut run = Run::piped();
+        run.send(&[2, 16]);
+        run.is_silent();
+        run.send(&link);
+        run.is_silent();
+        run.send(&last);
+        assert_eq!(run.end().well(), format!("desk refused {refusal}\n"));
+    }
+}
+
+/// A file that ends behind its count has no guard.
+#[test]
+fn a_missing_guard_is_refused_at_the_end() {
+    for count in [1, 64] {
+        let mut run = Run::piped();
+        run.send(&[count]);
+        run.is_silent();
+        run.close();
+        assert_eq!(run.end().well(), "desk refused 12\n", "{count} links");
+    }
 }

@@ -130,7 +130,7 @@ fn a_read_that_fails_between_orders() {
 #[test]
 fn a_read_that_fails_in_the_first_bytes() {
     let (input, _) = &*SHORT;
-    for size in [0, 1, 2, first_bytes(input) - 1] {
+    for size in [0, 1, 2, 3, first_bytes(input) - 1] {
         println!("behind {size} bytes");
         assert_eq!(Run::to_pipe(failing_behind(&input[..size])).end().failed(), "");
     }

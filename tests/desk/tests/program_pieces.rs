@@ -69,14 +69,14 @@ fn random_sessions_in_random_pieces() {
     }
 }
 
-/// Each input comes in two pieces, cut near the end of the first byte, of the first bytes, of the first order or of a block,
+/// Each input comes in two pieces, cut near the end of the guard, of the first bytes, of the first order or of a block,
 /// which may be counted from the first byte or from the first order.
 #[test]
 fn two_pieces_cut_at_a_border() {
     let (input, due) = told(SEED, Style::Chain, 8_300);
     let first = first_bytes(&input);
     let blocks = [BLOCK_BYTES, 2 * BLOCK_BYTES, first + BLOCK_BYTES, first + 2 * BLOCK_BYTES];
-    for border in [1, first, first + ORDER_BYTES].into_iter().chain(blocks) {
+    for border in [2, first, first + ORDER_BYTES].into_iter().chain(blocks) {
         for behind in [-17, -16, -15, -1, 0, 1, 15, 16, 17] {
             let cut = border.saturating_add_signed(behind);
             println!("cut at {cut}");

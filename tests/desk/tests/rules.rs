@@ -4,7 +4,7 @@ use desk_tests::cases::cases;
 use desk_tests::lines::{link_bytes, opening, order_bytes, output, read_link, read_order};
 use desk_tests::plain::{Answer, Call, Desk};
 use desk_tests::tables;
-use desk_tests::Request;
+use desk_tests::{Head, Link, Request};
 use support::Random;
 
 const SESSION: &str = "desk links 3
@@ -26,7 +26,7 @@ fn sample(name: &str) -> Vec<u8> {
 #[test]
 fn cases_by_hand() {
     for case in cases() {
-        let mut desk = Desk::set_up(&case.links).expect("a valid net");
+        let mut desk = Desk::set_up(&case.links, case.guard).expect("a valid net and guard");
         for (place, (call, answer)) in case.steps.iter().enumerate() {
             let before = desk.clone();
             assert_eq!(desk.answer(call), *answer, "{}, step {place}: {call:?}", case.name);
@@ -41,18 +41,19 @@ fn cases_by_hand() {
 fn the_session_s_lines() {
     let session = sample("session.orders");
     assert_eq!(output(&session), SESSION);
-    let (links, _) = opening(&session).expect("a valid head");
-    assert_eq!(link_bytes(&links.links[0]), [0x00, 0x40, 0x00, 0x28, 0, 0, 0, 0]);
+    let (desk, _) = opening(&session).expect("a valid head");
+    assert_eq!(link_bytes(&desk.links[0]), [0x00, 0x40, 0x00, 0x28, 0, 0, 0, 0]);
+    assert_eq!(desk.guard, 0);
     let first = Request { from: 0, to: 2, bandwidth: 4, duration: 10, earliest: 0, latest: 1_000_000_000 };
-    assert_eq!(read_order(&session[25..41]), Ok(Call::Book(7, first)));
+    assert_eq!(read_order(&session[26..42]), Ok(Call::Book(7, first)));
     let bytes = [0x10, 0x01, 0xC0, 0x20, 0x00, 0x04, 0x00, 0x00, 0xA0, 0x00, 0x00, 0x00, 0x3F, 0xFF, 0xFF, 0xFF];
-    assert_eq!(session[25..41], bytes);
+    assert_eq!(session[26..42], bytes);
 }
 
 #[test]
 fn the_session_as_values_gives_the_same_bytes() {
     let case = &cases()[0];
-    let mut bytes = vec![case.links.len() as u8];
+    let mut bytes = vec![case.links.len() as u8, case.guard as u8];
     case.links.iter().for_each(|link| bytes.extend(link_bytes(link)));
     for (call, _) in &case.steps {
         let mut call = call.clone();
@@ -68,7 +69,7 @@ fn the_session_as_values_gives_the_same_bytes() {
 
 #[test]
 fn the_samples_lines() {
-    for name in ["session", "busy_day", "full_book", "damaged"] {
+    for name in ["session", "busy_day", "full_book", "damaged", "guard"] {
         let expected = String::from_utf8(sample(&format!("{name}.expected"))).expect("a text");
         assert_eq!(output(&sample(&format!("{name}.orders"))), expected, "{name}");
     }
@@ -81,8 +82,9 @@ fn heads() {
     let no_capacity = [0x00, 0x40, 0x00, 0x00, 0, 0, 0, 0];
     let equal_ends = [0x08, 0x40, 0x00, 0x28, 0, 0, 0, 0];
     let too_much = [0x00, 0x7D, 0x09, 0x04, 0, 0, 0, 0]; // 1,000,001 Mb/s
-    let head = |count: u8, links: &[[u8; 8]]| [&[count], links.concat().as_slice()].concat();
-    let cases: [(&str, Vec<u8>, &str); 14] = [
+    let guarded = |guard: u8, count: u8, links: &[[u8; 8]]| [&[count, guard], links.concat().as_slice()].concat();
+    let head = |count: u8, links: &[[u8; 8]]| guarded(0, count, links);
+    let cases: [(&str, Vec<u8>, &str); 28] = [
         ("empty input", vec![], "desk refused 12\n"),
         ("no link", vec![0], "desk refused 1\n"),
         ("65 links, too few bytes", head(65, &[good]), "desk refused 1\n"),
@@ -90,6 +92,20 @@ fn heads() {
         ("64 links", head(64, &[good; 64]), "desk links 64\n"),
         ("64 links, too few bytes", head(64, &[good; 63]), "desk refused 12\n"),
         ("a count alone", vec![1], "desk refused 12\n"),
+        ("no link comes before no guard", vec![0], "desk refused 1\n"),
+        ("65 links come before no guard", vec![65], "desk refused 1\n"),
+        ("65 links come before a guard of 16", vec![65, 16], "desk refused 1\n"),
+        ("a count and a guard alone", vec![1, 0], "desk refused 12\n"),
+        ("a count and a guard of 16 alone", vec![1, 16], "desk refused 12\n"),
+        ("too few bytes come before a guard of 16", guarded(16, 2, &[good]), "desk refused 12\n"),
+        ("a bad record comes before a guard of 16", guarded(16, 2, &[good, spoiled]), "desk refused 11\n"),
+        ("a guard of 16", guarded(16, 1, &[good]), "desk refused 4\n"),
+        ("a guard of 255", guarded(255, 1, &[good]), "desk refused 4\n"),
+        ("a guard of 16 comes before a bad link", guarded(16, 1, &[equal_ends]), "desk refused 4\n"),
+        ("a guard of 16 with an order behind", [guarded(16, 1, &[good]), vec![0; 16]].concat(), "desk refused 4\n"),
+        ("a guard of 15 and a bad link", guarded(15, 1, &[no_capacity]), "desk refused 2\n"),
+        ("a guard of 15", guarded(15, 64, &[good; 64]), "desk links 64\n"),
+        ("a guard of 15, one byte behind", [guarded(15, 1, &[good]), vec![0]].concat(), "desk links 1\n1 refused 12\n"),
         ("too few bytes come before a bad record", head(2, &[spoiled]), "desk refused 12\n"),
         ("a bad record comes before a bad link", head(2, &[no_capacity, spoiled]), "desk refused 11\n"),
         ("no capacity", head(1, &[no_capacity]), "desk refused 2\n"),
@@ -155,12 +171,12 @@ fn unused_bits_and_kinds() {
 #[test]
 fn the_session_s_tables() {
     let case = &cases()[0];
-    let mut desk = Desk::set_up(&case.links).expect("a valid net");
+    let mut desk = Desk::set_up(&case.links, case.guard).expect("a valid net and guard");
     case.steps[..4].iter().for_each(|(call, _)| {
         desk.answer(call);
     });
     let tables = tables::of(&desk);
-    assert_eq!((tables.head.clock, tables.head.links, tables.head.bookings), (0, 3, 3));
+    assert_eq!(tables.head, Head { clock: 0, links: 3, bookings: 3, guard: 0 });
     assert_eq!(tables.events[..5], [0, 5, 9, 10, 0]);
     let rows = [[4, 4, 0, 0], [5, 5, 0, 0], [10, 10, 0, 0], [10, 10, 4, 0], [0, 0, 0, 0]];
     for (row, figures) in rows.iter().enumerate() {
@@ -173,4 +189,49 @@ fn the_session_s_tables() {
     }
     assert_eq!((tables.events.len(), tables.free.len(), tables.book.len()), (129, 8_256, 2_304));
     assert_eq!(tables::read(&case.links, &tables).map(|read| tables::of(&read)), Ok(tables));
+}
+
+/// A link of 10 Mb/s at minute 8 under guard 3, figure by figure: booking 1 of minutes 0 to 5 is in its guard, and 2 starts
+/// when that ends.
+#[test]
+fn tables_under_a_guard() {
+    let links = [Link { from: 0, to: 1, capacity: 10 }];
+    let mut desk = Desk::set_up(&links, 3).expect("a valid link and guard");
+    let request = |bandwidth, duration| Request { from: 0, to: 1, bandwidth, duration, earliest: 0, latest: 20 };
+    assert_eq!(desk.book(1, &request(7, 6)).map(|start| start.minute), Ok(0));
+    assert_eq!(desk.book(2, &request(4, 2)).map(|start| start.minute), Ok(9));
+    assert_eq!(desk.move_clock(8), Ok(()));
+    let tables = tables::of(&desk);
+    assert_eq!(tables.head, Head { clock: 8, links: 1, bookings: 2, guard: 3 });
+    assert_eq!(tables.events[..4], [8, 9, 14, 0]);
+    assert_eq!([0, 1, 2, 3].map(|row| tables.free[row * 64]), [3, 6, 10, 0]);
+    let places = [[1, 0, 6, 7, 1, 0], [2, 9, 2, 4, 1, 0], [0; 6]];
+    for (place, figures) in places.iter().enumerate() {
+        assert_eq!(tables.book[place * 36..][..6], *figures, "place {place}");
+    }
+    assert_eq!(tables::read(&links, &tables), Ok(desk));
+}
+
+/// Every guard there is, with the next booking behind one of minutes 0 to 9, and the first one that there isn't.
+#[test]
+fn every_guard() {
+    let links = [Link { from: 0, to: 1, capacity: 10 }];
+    let whole = Request { from: 0, to: 1, bandwidth: 10, duration: 10, earliest: 0, latest: 1_000_000_000 };
+    for guard in 0..=15 {
+        let mut desk = Desk::set_up(&links, guard).expect("a guard of 0 to 15");
+        assert_eq!(desk.book(1, &whole).map(|start| start.minute), Ok(0));
+        assert_eq!(desk.offer(&Request { latest: 9 + guard, ..whole }), Err(8), "guard {guard}");
+        assert_eq!(desk.book(2, &whole).map(|start| start.minute), Ok(10 + guard));
+        assert_eq!(desk.events(), [0, 10 + guard, 20 + 2 * guard]);
+        assert_eq!(
+            (desk.show(0, 9 + guard), desk.show(0, 19 + 2 * guard), desk.show(0, 20 + 2 * guard)),
+            (Ok(0), Ok(0), Ok(10))
+        );
+        desk.move_clock(9 + guard).expect("a later minute");
+        assert_eq!(desk.book(1, &whole), Err(6));
+        desk.move_clock(10 + guard).expect("a later minute");
+        assert_eq!(desk.cancel(1), Err(9));
+        assert_eq!((desk.show(0, 1_000_525_615), desk.show(0, 1_000_525_616)), (Ok(10), Err(4)));
+    }
+    assert_eq!(Desk::set_up(&links, 16), Err(4));
 }

@@ -19,8 +19,8 @@ fn run(input: &[u8], out: &mut Vec<u8>) -> std::io::Result<()> {
     let (mut head, mut events, mut free) = (Head::default(), [0; EVENTS], [0; EVENTS * ROW]);
     let mut book = [0; BOOKINGS * PLACE];
     let mut tables = Tables { head: &mut head, events: &mut events, free: &mut free, book: &mut book };
-    let opened = read_links(input).and_then(|(links, orders)| {
-        fast::set_up(&links, &mut tables)?;
+    let opened = read_links(input).and_then(|(links, guard, orders)| {
+        fast::set_up(&links, &mut tables, guard)?;
         Ok((links, orders))
     });
     let (links, orders) = match opened {
@@ -37,13 +37,15 @@ fn run(input: &[u8], out: &mut Vec<u8>) -> std::io::Result<()> {
     Ok(())
 }
 
-fn read_links(input: &[u8]) -> Result<(Vec<Link>, &[u8]), u32> {
+/// The links, the guard and the bytes of the orders.
+fn read_links(input: &[u8]) -> Result<(Vec<Link>, u32, &[u8]), u32> {
     let (&count, rest) = input.split_first().ok_or(12u32)?;
     if !(1..=LINKS).contains(&(count as usize)) {
         return Err(1);
     }
+    let (&guard, rest) = rest.split_first().ok_or(12u32)?;
     let (records, orders) = rest.split_at_checked(count as usize * 8).ok_or(12u32)?;
-    Ok((records.chunks(8).map(read_link).collect::<Result<_, u32>>()?, orders))
+    Ok((records.chunks(8).map(read_link).collect::<Result<_, u32>>()?, guard as u32, orders))
 }
 
 /// Runs one order and writes the line behind its place, unless it is refused.
@@ -67,7 +69,7 @@ fn order(links: &[Link], tables: &mut Tables, piece: &[u8], out: &mut Vec<u8>) -
             fast::move_clock(links, tables, minute)?;
             put(out, format_args!("clock {minute}\n"));
         }
-        Call::SetUp(_) | Call::List(..) | Call::Show { .. } => unreachable!("no order asks for this"),
+        Call::SetUp { .. } | Call::List(..) | Call::Show { .. } => unreachable!("no order asks for this"),
     }
     Ok(())
 }
