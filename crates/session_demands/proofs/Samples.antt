@@ -13,7 +13,7 @@ use Rattle.rules.specs.Calls.{checked, best}
 use Rattle.opening.specs.Opened.{first_size, link_record, links_refusal, links_in, bytes_refusal}
 use Rattle.session.specs.Session.{orders, session}
 use Rattle.session_demands.specs.FromPlainBook.{plain_lines, plain_session}
-use Rattle.session_demands.specs.Samples.{busy_day, full_book, PrintsSamples}
+use Rattle.session_demands.specs.Samples.{busy_day, full_book, guarded_day, PrintsSamples}
 use Rattle.session_demands.proofs.PlainBook.{session_plain}
 
 busy_day_text : plain_session busy_day.bytes ≡ busy_day.text
@@ -24,6 +24,10 @@ full_book_text : plain_session full_book.bytes ≡ full_book.text
 unfolding plain_session plain_lines orders first_size link_record links_refusal links_in bytes_refusal count_from big_endian cut sum clear order_from order_read link_from link_read kinds.answer checked best select member earliest can_start reaches lowest fewest route first_from all_from any_below digits decimal numbers route_text answer line
 full_book_text = refl
 
+guarded_day_text : plain_session guarded_day.bytes ≡ guarded_day.text
+unfolding plain_session plain_lines orders first_size link_record links_refusal links_in bytes_refusal count_from big_endian cut sum clear order_from order_read link_from link_read kinds.answer checked best select member earliest can_start reaches lowest fewest route first_from all_from any_below digits decimal numbers route_text answer line
+guarded_day_text = refl
+
 pub samples_printed : PrintsSamples session
 unfolding cut
-samples_printed = (session_plain busy_day.bytes ∙ busy_day_text, (session_plain full_book.bytes ∙ full_book_text, tt))
+samples_printed = (session_plain busy_day.bytes ∙ busy_day_text, (session_plain full_book.bytes ∙ full_book_text, (session_plain guarded_day.bytes ∙ guarded_day_text, tt)))
