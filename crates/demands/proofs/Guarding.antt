@@ -1,11 +1,9 @@
 -- The desk keeps bookings apart: where two held a link in one minute that it can't carry together, it would be oversold in that minute.
 use mathlib.Core.Path.{◌≡◌, sym, ap, ◌∙◌}
 use mathlib.Core.Logic.{◌≢◌, inl, inr}
-use mathlib.Core.List.Memᴰ
 use mathlib.Core.List.{List, [], ◌∷◌, Memᴰ}
-use Prim.Native.Nat.{ℕ, ◌+◌, ◌≤◌, ◌<◌, max}
+use Prim.Native.Nat.{ℕ, ◌+◌, ◌≤◌, ◌<◌}
 use native.Mathlib.Omega.{arith}
-use native.Mathlib.Decide.{dec_le}
 use Rattle.units.specs.declared.Link.{Link}
 use Rattle.units.specs.Lists.{if_so, sum}
 use Rattle.units.proofs.Tests.{member_tells, Side, below, above, side}

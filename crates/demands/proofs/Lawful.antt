@@ -1,5 +1,5 @@
 -- The bandwidth desk is lawful: what `histories` asks of a kind, of this one.
-use mathlib.Core.Path.{◌≡◌, refl, sym, ap, ap₂, ◌∙◌}
+use mathlib.Core.Path.{◌≡◌, refl, sym, ap₂, ◌∙◌}
 use mathlib.Core.HLevel.{hedberg}
 use mathlib.Core.Logic.{inl, inr, ∥∥₁_elim}
 use mathlib.Core.List.{List, Permᴰ}

@@ -3,7 +3,7 @@
 use mathlib.Core.Path.{◌≡◌, refl, sym, ap, ap₂, ◌∙◌, fun_ext, subst}
 use mathlib.Core.Logic.{◌↔◌, ⊎_elim}
 use mathlib.Core.List.Memᴰ
-use mathlib.Core.List.{List, [], ◌∷◌, map, flatten, Memᴰ}
+use mathlib.Core.List.{List, [], ◌∷◌, flatten, Memᴰ}
 use mathlib.Core.Bool.{Bool, true, false, ◌&&◌, ◌||◌, true≢false}
 use Prim.Native.Nat.{ℕ, ◌+◌, ◌-◌, ◌*◌, ◌≤◌, ◌<◌}
 use native.Mathlib.Omega.{arith}
@@ -30,7 +30,6 @@ use Rattle.free_table.proofs.Figures.{length_table}
 use Rattle.free_table.proofs.Tables.{table_with_span}
 use Rattle.free_table.proofs.Taken.{less_span_table}
 use Rattle.free_table.proofs.SpanCheck.{enough_span_early, enough_span_table}
-use Rattle.path_search.specs.Paths.{Graph, Leads, PathRight}
 use Rattle.path_search.proofs.Paths.{path_inside, path_distinct}
 use Rattle.book.specs.declared.Booking.{Booking as Place}
 use Rattle.rules.specs.Plain.{Booking, Plain, until, uses, times, taken, capacity, graph, free}

@@ -24,7 +24,9 @@ use report::MAX_LINE;
 use std::io;
 use streams::reader::{Block, Input, read_start};
 use streams::writer::{Lines, Output, write_whole};
-use units::{BOOK_FIGURES, Bandwidth, Duration, EVENTS, FREE_FIGURES, Head, LINKS, Link, Minute, Refusal};
+use units::{
+    BOOK_FIGURES, Bandwidth, Duration, EVENTS, FREE_FIGURES, Head, LINKS, Link, Minute, Refusal,
+};
 
 // The turns of the loop over the pieces of an input: no input has as many.
 const MOST_TURNS: u64 = 1 << 51;
