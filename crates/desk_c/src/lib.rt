@@ -138,7 +138,7 @@ pub extern "C" fn gcr_cancel(
     refusal_number(cancel(&mut desk, number))
 }
 
-// Moves the clock on; bookings whose end is at or before it are dropped. Refuses 1, 3, 4 and 10.
+// Moves the clock on; bookings whose end and guard are over then are dropped. Refuses 1, 3, 4 and 10.
 #[unsafe(no_mangle)]
 pub extern "C" fn gcr_move_clock(
     head: &mut Head,

@@ -74,7 +74,7 @@ pub fn cancel(desk: &mut Desk<'_>, number: u32) -> Result<(), Refusal>
     Ok(())
 }
 
-// Moves the clock on; bookings whose end is at or before it are dropped.
+// Moves the clock on; bookings whose end and guard are over then are dropped.
 pub fn move_clock(desk: &mut Desk<'_>, minute: Minute) -> Result<(), Refusal>
     requires { Fine desk.old.links.now (tables_of desk.old) }
     ensures loans { SameLoans desk.old desk.new }

@@ -41,22 +41,22 @@ module _ (old left : Option (List ℕ)) (n : ℕ) (some : n ≡ 0 → ⊥) (few 
   came_one : (b : ℕ) → Consumes old left (take n (b ∷ [])) → Consumes old left (b ∷ [])
   came_one b c = let e : n ≡ 1 = omega (arith, some, few) in subst (λ m. Consumes old left (take m (b ∷ []))) e c
 
-  pub first_alone : (lead post : List ℕ) → length lead ≡ 1 → Consumes old left (take n lead) → rest_size (get_or (lead ++ post) 0 0) ≡ None → TakesStart old left (take 1 (lead ++ post))
+  pub first_alone : (first post : List ℕ) → length first ≡ 1 → Consumes old left (take n first) → rest_size (get_or (first ++ post) 0 0) ≡ None → TakesStart old left (take 1 (first ++ post))
   first_alone [] post one c e = absurd (omega (arith, one))
   first_alone (b ∷ d ∷ bs) post one c e = absurd (omega (arith, one))
   first_alone (b ∷ []) post one c e =
       let size = size_uncounted (b ∷ []) e in
       start_came old left (b ∷ []) (omega arith) (omega (arith, size)) (λ less. absurd (omega (arith, less, size))) (came_one b c)
 
-  pub first_and_rest : (end : Option (List ℕ)) (size k : ℕ) (lead post records : List ℕ) → length lead ≡ 1 → Consumes old left (take n lead) → rest_size (get_or (lead ++ post) 0 0) ≡ Some size
-      → length records ≡ size → k ≤ length records → Consumes left end (take k records) → (k < length records → IsAtEnd end) → TakesStart old end (take (1 + k) (put_mid 1 (1 + size - 1) (lead ++ post) records))
-  first_and_rest end size k [] post records one c e long within came ended = absurd (omega (arith, one))
-  first_and_rest end size k (b ∷ d ∷ bs) post records one c e long within came ended = absurd (omega (arith, one))
-  first_and_rest end size k (b ∷ []) post records one c e long within came ended =
-      let start : List ℕ = b ∷ take k records in
+  pub first_and_rest : (end : Option (List ℕ)) (size k : ℕ) (first post others : List ℕ) → length first ≡ 1 → Consumes old left (take n first) → rest_size (get_or (first ++ post) 0 0) ≡ Some size
+      → length others ≡ size → k ≤ length others → Consumes left end (take k others) → (k < length others → IsAtEnd end) → TakesStart old end (take (1 + k) (put_mid 1 (1 + size - 1) (first ++ post) others))
+  first_and_rest end size k [] post others one c e long within came ended = absurd (omega (arith, one))
+  first_and_rest end size k (b ∷ d ∷ bs) post others one c e long within came ended = absurd (omega (arith, one))
+  first_and_rest end size k (b ∷ []) post others one c e long within came ended =
+      let start : List ℕ = b ∷ take k others in
       let whole = (size_counted (b ∷ []) e).0 in
-      let whole_start : first_size start ≡ 1 + size = size_front (b ∷ []) (take k records) (omega arith) ∙ whole in
-      let long_start : length start ≡ 1 + k = omega (arith, length-take-le k records within) in
-      subst (TakesStart old end) (sym (take-append-add (b ∷ []) (records ++ _) k ∙ ap (λ l. b ∷ l) (take-append-le k records _ within)))
+      let whole_start : first_size start ≡ 1 + size = size_front (b ∷ []) (take k others) (omega arith) ∙ whole in
+      let long_start : length start ≡ 1 + k = omega (arith, length-take-le k others within) in
+      subst (TakesStart old end) (sym (take-append-add (b ∷ []) (others ++ _) k ∙ ap (λ l. b ∷ l) (take-append-le k others _ within)))
       (start_came old end start (omega (arith, long_start)) (omega (arith, long_start, whole_start, within, long)) (λ less. ended (omega (arith, less, long_start, whole_start, long)))
-      (Consumes-trans old left end (b ∷ []) (take k records) (came_one b c) came))
+      (Consumes-trans old left end (b ∷ []) (take k others) (came_one b c) came))

@@ -1,4 +1,4 @@
--- `read_start` meets its contract: the first byte, and the records that it counts.
+-- `read_start` meets its contract: the first byte, and what stands behind it.
 use Rattle.std.proofs.Common.{rules}
 use Rattle.streams.proofs.Start.{first_alone, first_and_rest}
 use Rattle.streams.proofs.reader.read_start.Goals as goal
