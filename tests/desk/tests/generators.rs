@@ -8,7 +8,7 @@ use desk_tests::plain::{Answer, Booking, Call, Desk};
 use desk_tests::sessions::{fullest, session, History};
 use desk_tests::tables::{self, Tables};
 use desk_tests::{Link, MAX_DURATION, MAX_GUARD, MAX_MINUTE};
-use support::Random;
+use support::{Random, Seed};
 
 const SESSIONS: u64 = 3_000;
 const SEED: u64 = 0x0DE5_1000;
@@ -96,6 +96,7 @@ impl Counts {
 fn sessions_cover_everything() {
     let (mut counts, mut guards) = (Counts::default(), guards::Counts::default());
     for seed in SEED..SEED + SESSIONS {
+        let _seed = Seed(seed);
         let input = session(seed);
         let text = output(&input);
         counts.empty += input.is_empty() as u32;
@@ -184,6 +185,7 @@ fn tables_of_histories_are_sound_and_read_back() {
     let mut refused = [0; 14];
     let mut guards = guards::Counts::default();
     for seed in SEED..SEED + 160 {
+        let _seed = Seed(seed);
         let mut history = History::new(seed);
         for step in 0..400 {
             let before = history.desk.clone();
