@@ -1,10 +1,13 @@
 -- The plain book is fed as document 01 says.
 use mathlib.Core.Path.{◌≡◌, refl}
+use mathlib.Core.List.{◌∷◌}
 use Prim.Native.Nat.{ℕ, ◌+◌}
 use native.Mathlib.Omega.{arith}
 use lib.Dec.{ltb}
 use Rattle.units.specs.Lists.{select}
-use Rattle.rules.specs.Plain.{Plain}
+use Rattle.units.specs.declared.Request.{Request}
+use Rattle.choice.specs.Choice.{Grant}
+use Rattle.rules.specs.Plain.{Plain, terms}
 use Rattle.rules.specs.Calls.{Ask, book, offer, list, cancel, move_clock, show, Call, set_up_with, ask, Answer, done, starts, lists, shows, refused, refuse, next}
 use Rattle.rules.specs.Feeding.{RightlyFed}
 
@@ -16,6 +19,10 @@ refusal_kept p (ask (list n r)) k = refl
 refusal_kept p (ask (cancel n)) k = refl
 refusal_kept p (ask (move_clock m)) k = refl
 refusal_kept p (ask (show l m)) k = refl
+
+booking_added : (p : Plain) (n : ℕ) (r : Request) (g : Grant)
+    → ((next p (ask (book n r)) (starts g)).bookings ≡ record { number = n; terms = terms r; grant = g } ∷ p.bookings) × ((next p (ask (book n r)) (starts g)).clock ≡ p.clock)
+booking_added p n r g = (refl, refl)
 
 guard_kept : (p : Plain) (a : Ask) (answer : Answer) → (next p (ask a) answer).guard ≡ p.guard
 guard_kept p (book n r) done = refl
@@ -45,7 +52,7 @@ rightly_fed = record {
   set_up_empties = λ p guard. (refl, refl);
   set_up_guards = λ p guard. refl;
   guard_stays = guard_kept;
-  booking_adds = λ p n r g. (refl, refl);
+  booking_adds = booking_added;
   clock_set = λ p m. refl;
   ended_dropped = λ p m i. select (λ b. ltb m (end_and_guard b.grant.start b.terms.duration p.guard i)) p.bookings;
   offer_keeps = λ p r a. refl;
