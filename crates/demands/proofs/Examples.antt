@@ -21,7 +21,7 @@ use Rattle.histories.specs.Kinds as kinds
 use Rattle.rules.specs.Desk.{answer, outcome}
 use Rattle.rules.specs.Choosing.{Carries, PathAt}
 use Rattle.rules.specs.Sound.{LinkRight}
-use Rattle.demands.specs.Examples.{start_at, session_links, Entry, Holds, request, only, fill, session, free_figure, free_figure_left, before_low, full_book, same_ends, guarded, Examples}
+use Rattle.demands.specs.Examples.{start_at, session_links, Entry, Holds, request, only, fill, session, free_figure, free_figure_left, before_low, full_book, same_ends, guarded, last_figure, Examples}
 use Rattle.rules.proofs.Checks.{passed_answer, passed_done}
 use Rattle.rules.proofs.Tests.{links_tell, RequestRight, request_right}
 use Rattle.rules.proofs.Choices.{best_right}
@@ -48,6 +48,10 @@ full_book_replies f a b = refl
 guarded_replies : Replies guarded
 unfolding every_kind.replies kinds.answer checked best select member sum earliest can_start reaches lowest fewest route first_from all_from any_below
 guarded_replies f a b = refl
+
+last_figure_replies : (guard : ℕ) → Replies (last_figure guard)
+unfolding every_kind.replies kinds.answer checked sum
+last_figure_replies guard f a b = refl
 
 same_ends_replies : Replies same_ends
 unfolding every_kind.replies kinds.answer checked
@@ -146,7 +150,13 @@ examples = (
           holds full_book (lit≤ tt) (λ f a b. only_right 64 (lit≤ tt) (lit≤ tt)) full_book_replies,
           (
             holds same_ends (lit≤ tt) (λ f a b. only_right 1 (lit≤ tt) (lit≤ tt)) same_ends_replies,
-            (holds guarded (lit≤ tt) (λ f a b. only_right 4 (lit≤ tt) (lit≤ tt)) guarded_replies, tt),
+            (
+              holds guarded (lit≤ tt) (λ f a b. only_right 4 (lit≤ tt) (lit≤ tt)) guarded_replies,
+              (
+                holds (last_figure 0) (lit≤ tt) (λ f a b. only_right 4 (lit≤ tt) (lit≤ tt)) (last_figure_replies 0),
+                (holds (last_figure 15) (lit≤ tt) (λ f a b. only_right 4 (lit≤ tt) (lit≤ tt)) (last_figure_replies 15), tt),
+              ),
+            ),
           ),
         ),
       ),

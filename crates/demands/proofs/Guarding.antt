@@ -16,7 +16,7 @@ use Rattle.rules.specs.Desk.{bandwidth_desk, outcome}
 use Rattle.rules.proofs.Uses.{uses_within}
 use Rattle.histories.specs.Demands as demands
 use Rattle.histories.proofs.Demand3.{followed}
-use Rattle.demands.specs.Guarding.{Apart, KeepsApart}
+use Rattle.demands.specs.Guarding.{Separate, KeepsApart}
 use Rattle.demands.proofs.Lawful.{lawful, obeyed}
 
 module _ (p : Plain) (l m : ℕ) where
@@ -47,7 +47,7 @@ module _ (links : List Link) (p : Plain) (o : Obeys links p) (a b : Booking) (i 
       let most = o.not_oversold l m inside in
       omega (arith, of_a, of_b, two, most)
 
-  apart : capacity links l < a.terms.bandwidth + b.terms.bandwidth → Apart p.guard a b
+  apart : capacity links l < a.terms.bandwidth + b.terms.bandwidth → Separate p.guard a b
   apart too_much = by (side b.grant.start (a.grant.start + a.terms.duration + p.guard)) (side a.grant.start (b.grant.start + b.terms.duration + p.guard)) (side a.grant.start b.grant.start)
     where
       lasts_a : 1 ≤ a.terms.duration
@@ -56,7 +56,7 @@ module _ (links : List Link) (p : Plain) (o : Obeys links p) (a b : Booking) (i 
       lasts_b : 1 ≤ b.terms.duration
       lasts_b = (all_at (BookingRight links p) o.bookings_right j).duration_right.0
 
-      by : Side b.grant.start (a.grant.start + a.terms.duration + p.guard) → Side a.grant.start (b.grant.start + b.terms.duration + p.guard) → Side a.grant.start b.grant.start → Apart p.guard a b
+      by : Side b.grant.start (a.grant.start + a.terms.duration + p.guard) → Side a.grant.start (b.grant.start + b.terms.duration + p.guard) → Side a.grant.start b.grant.start → Separate p.guard a b
       by (above x) y z = inl (omega arith)
       by (below x) (above y) z = inr (omega arith)
       by (below x) (below y) (below z) = let h = both_hold b.grant.start (omega arith) (omega arith) (omega arith) (omega (arith, lasts_b)) in absurd (omega (arith, h))

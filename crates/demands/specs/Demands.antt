@@ -54,7 +54,7 @@ abbrev pub SameMinute : Desk → Type 0
 SameMinute desk = (links : List Link) (t : Tables) → Fine links t
     → ((desk links t (ask (move_clock (held t).clock))).answer ≡ done) × ((desk links t (ask (move_clock (held t).clock))).tables ≡ t)
 
--- 'The last row holds without end and shows full capacity': at every moment of a history, from the end of the last booking on.
+-- 'The last row holds without end and shows full capacity': at every moment of a history, from when the last booking is released on.
 abbrev pub LastRowFull : Desk → Type 0
 LastRowFull desk =
     (links : List Link) (h : demands.Moment bandwidth_desk desk links) (l m : ℕ) → l < length links → (demands.plain bandwidth_desk desk h).clock ≤ m

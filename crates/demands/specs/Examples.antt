@@ -1,10 +1,10 @@
--- The examples of document 01 that are marked P, and document 02's of a guard, as one list of entries with a single claim over the
+-- The examples of document 01 that are marked P, and those of document 02's Job 5, as one list of entries with a single claim over the
 -- list, of any desk.
 use Rattle.std.specs.Prelude.{◌≡◌, List, [], ◌∷◌, ◌++◌, map, true, ℕ, zero, suc, ◌-◌, ◌≤◌, replicate}
 use Rattle.units.specs.declared.Link.{Link}
 use Rattle.units.specs.declared.Request.{Request}
 use Rattle.units.specs.Lists.{All}
-use Rattle.rules.specs.Calls.{Ask, book, offer, cancel, move_clock, set_up, ask, Answer, done, starts, refuse}
+use Rattle.rules.specs.Calls.{Ask, book, offer, cancel, move_clock, show, set_up, ask, Answer, done, starts, shows, refuse}
 use Rattle.rules.specs.Tables.{Tables, sized}
 use Rattle.histories.specs.Histories.{answers}
 use Rattle.demands.specs.Demands.{Desk}
@@ -121,8 +121,19 @@ guarded = record {
   answered = λ f. start_at 0 (0 ∷ []) ∷ start_at 12 (0 ∷ []) ∷ [];
 }
 
+-- document 02's 'a free figure may be asked for up to minute 1,000,525,615', under no guard and under the longest
+abbrev pub last_figure : ℕ → Entry
+last_figure guard = record {
+  guard = guard;
+  least = 0;
+  most = 0;
+  links = λ f. only 4;
+  calls = λ f. show 0 1000525615 ∷ show 0 1000525616 ∷ [];
+  answered = λ f. shows 4 ∷ refuse 4 ∷ [];
+}
+
 abbrev pub entries : List Entry
-entries = session ∷ free_figure ∷ free_figure_left ∷ before_low ∷ full_book ∷ same_ends ∷ guarded ∷ []
+entries = session ∷ free_figure ∷ free_figure_left ∷ before_low ∷ full_book ∷ same_ends ∷ guarded ∷ last_figure 0 ∷ last_figure 15 ∷ []
 
 -- the single claim
 abbrev pub Examples : Desk → Type 0

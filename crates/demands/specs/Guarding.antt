@@ -7,13 +7,13 @@ use Rattle.rules.specs.Plain.{Booking, capacity}
 use Rattle.rules.specs.Desk.{bandwidth_desk}
 use Rattle.demands.specs.Demands.{Desk}
 
--- one of two bookings starts when the other has ended and the guard is over
-abbrev pub Apart : ℕ → Booking → Booking → Type 0
-Apart guard a b = (a.grant.start + a.terms.duration + guard ≤ b.grant.start) ⊎ (b.grant.start + b.terms.duration + guard ≤ a.grant.start)
+-- one of two bookings starts no earlier than when the other has ended and the guard is over
+abbrev pub Separate : ℕ → Booking → Booking → Type 0
+Separate guard a b = (a.grant.start + a.terms.duration + guard ≤ b.grant.start) ⊎ (b.grant.start + b.terms.duration + guard ≤ a.grant.start)
 
--- At every moment of a history two bookings that one link of theirs can't carry together are so far apart.
+-- At every moment of a history two standing bookings that one link of theirs can't carry together are so far apart.
 abbrev pub KeepsApart : Desk → Type 0
 KeepsApart desk =
     (links : List Link) (h : demands.Moment bandwidth_desk desk links) → let p = demands.plain bandwidth_desk desk h in
     (a b : Booking) → Memᴰ a p.bookings → Memᴰ b p.bookings → a.number ≢ b.number
-    → (l : ℕ) → Memᴰ l a.grant.path → Memᴰ l b.grant.path → capacity links l < a.terms.bandwidth + b.terms.bandwidth → Apart p.guard a b
+    → (l : ℕ) → Memᴰ l a.grant.path → Memᴰ l b.grant.path → capacity links l < a.terms.bandwidth + b.terms.bandwidth → Separate p.guard a b

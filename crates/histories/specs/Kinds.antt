@@ -50,7 +50,7 @@ pub record Kind : Type 1 where
   pub next : List Link → Plain → Call Start Ask → Answer → Plain
   -- its clock
   pub clock : Plain → ℕ
-  -- the clock and the standing bookings agree
+  -- the clock, the standing bookings and what the set-up was asked with agree
   pub Agree : Plain → Plain → Type 0
   -- the only tables that are right for these links and this plain book
   pub tables : List Link → Plain → Tables

@@ -43,13 +43,12 @@ order_bytes = 16
 abbrev pub link_bytes : ℕ
 link_bytes = 8
 
--- the bytes of a session's count of links, and of the count and the guard, which stand before the links
+-- the bytes of a session's count of links, of its guard, and of both, which stand before the links
 abbrev pub count_bytes : ℕ
 count_bytes = 1
 
-abbrev pub lead_bytes : ℕ
-lead_bytes = count_bytes + 1
+abbrev pub guard_bytes : ℕ
+guard_bytes = 1
 
--- those, and the most links that a first byte can count
-abbrev pub most_first_bytes : ℕ
-most_first_bytes = lead_bytes + 255 * link_bytes
+abbrev pub lead_bytes : ℕ
+lead_bytes = count_bytes + guard_bytes

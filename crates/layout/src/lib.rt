@@ -11,15 +11,17 @@ ghost use Rattle.layout.specs.Values.{kind_number, request_of, request_values, p
 
 use units::{Bandwidth, Duration, Link, MAX_MINUTE, Minute, Refusal, Request};
 
-// The bytes of an order, of a link, of a session's count of links, of the count and the guard that stand before the links, and of
-// these with the most links that a first byte counts.
+// The bytes of an order, of a link, of a session's count of links, of its guard, of both, which stand before the links, and of these
+// with the most links that a first byte counts.
 pub const ORDER_BYTES: usize = 16;
 
 pub const LINK_BYTES: usize = 8;
 
 pub const COUNT_BYTES: usize = 1;
 
-pub const LEAD_BYTES: usize = COUNT_BYTES + 1;
+pub const GUARD_BYTES: usize = 1;
+
+pub const LEAD_BYTES: usize = COUNT_BYTES + GUARD_BYTES;
 
 pub const FIRST_BYTES: usize = LEAD_BYTES + 255 * LINK_BYTES;
 

@@ -1,16 +1,16 @@
-// Whether figures are within document 01's limits: a booking number, the ends of a link or a request, the links, the fields
-// of a request, the sizes of what is lent. The soundness check and the refusals ask this; nothing here knows a refusal number.
+// Whether figures are within the documents' limits: a booking number, the ends of a link or a request, the links, a guard, the
+// fields of a request, the sizes of what is lent. The soundness check and the refusals ask this; nothing here knows a refusal number.
 #![tactic(auto)]
 
 ghost use Rattle.std.specs.Prelude.{◌≡◌};
 ghost use Rattle.rules.specs.Calls.{ends_ok, number_ok, request_ok};
-ghost use Rattle.rules.specs.Tables.{link_ok, links_ok, sized};
+ghost use Rattle.rules.specs.Tables.{guard_ok, link_ok, links_ok, sized};
 ghost use Rattle.lent.specs.Lent.{tables_in};
 
 use lent::LentTables;
 use units::{
-    BOOK_FIGURES, EVENTS, FREE_FIGURES, LAST_NODE, LINKS, Link, MAX_BANDWIDTH, MAX_DURATION,
-    MAX_MINUTE, MAX_NUMBER, Request,
+    BOOK_FIGURES, Duration, EVENTS, FREE_FIGURES, LAST_NODE, LINKS, Link, MAX_BANDWIDTH,
+    MAX_DURATION, MAX_GUARD, MAX_MINUTE, MAX_NUMBER, Request,
 };
 
 // Whether a booking number is in range.
@@ -39,6 +39,13 @@ pub fn links_right(links: &[Link]) -> bool
     ensures { result ≡ links_ok links.now }
 {
     links.iter().all(link_right)
+}
+
+// Whether a guard is in range.
+pub fn guard_ok(guard: Duration) -> bool
+    ensures { result ≡ guard_ok guard.0 }
+{
+    guard.0 <= MAX_GUARD
 }
 
 // Whether every field of a request is in range, and its nodes differ.

@@ -20,7 +20,7 @@ use Rattle.units.specs.Search.{Found, at, nothing, first_from}
 use Rattle.units.proofs.Search.{IsFirst, first_from_found}
 use Rattle.units.specs.Refusals.{bad_size, bad_length, number_of}
 use Rattle.path_search.proofs.Agree.{first_from_agree}
-use Rattle.layout.specs.Layout.{count_bytes, lead_bytes, link_bytes}
+use Rattle.layout.specs.Layout.{count_bytes, guard_bytes, lead_bytes, link_bytes}
 use Rattle.layout.specs.Records.{if_passed, link_read}
 use Rattle.layout.specs.Values.{link_values}
 use Rattle.rules.specs.Tables.{Tables}
@@ -93,7 +93,7 @@ module _ (t : Tables) (b : ℕ) (bs : List ℕ) (n : ℕ) (cut : n < length bs) 
   cut_first h = by (within 1 most_links b) refl
     where
       by : (x : Bool) → within 1 most_links b ≡ x → opened t (b ∷ take n bs) ≡ opened t (b ∷ bs)
-      by true q = let k : count_bytes + (1 + b * link_bytes) ≤ suc n = rw q at h in cut_in_range q (omega (arith, k))
+      by true q = let k : count_bytes + (guard_bytes + b * link_bytes) ≤ suc n = rw q at h in cut_in_range q (omega (arith, k))
       by false q = opened_by t b (take n bs) false _ q refl ∙ sym (opened_by t b bs false _ q refl)
 
 -- more bytes than those change nothing
@@ -105,13 +105,13 @@ opened_first t (b ∷ bs) (suc n) h = elim (dec_le (length bs) n) [ yes k ↦ ap
 
 -- the first bytes by what follows the first one, as `rest_size` says it
 module _ (bytes : List ℕ) where
-  pub size_counted : {n : ℕ} → rest_size (first_byte bytes) ≡ Some n → (first_size bytes ≡ count_bytes + n) × (n ≤ 1 + most_links * link_bytes)
+  pub size_counted : {n : ℕ} → rest_size (first_byte bytes) ≡ Some n → (first_size bytes ≡ count_bytes + n) × (n ≤ guard_bytes + most_links * link_bytes)
   unfolding first_size
   size_counted {n} e = by (within 1 most_links (first_byte bytes)) refl e
     where
-      by : (x : Bool) → within 1 most_links (first_byte bytes) ≡ x → if_passed x (Some (1 + first_byte bytes * link_bytes)) None ≡ Some n → (first_size bytes ≡ count_bytes + n) × (n ≤ 1 + most_links * link_bytes)
+      by : (x : Bool) → within 1 most_links (first_byte bytes) ≡ x → if_passed x (Some (guard_bytes + first_byte bytes * link_bytes)) None ≡ Some n → (first_size bytes ≡ count_bytes + n) × (n ≤ guard_bytes + most_links * link_bytes)
       by true q e =
-          let same : 1 + first_byte bytes * link_bytes ≡ n = cc in
+          let same : guard_bytes + first_byte bytes * link_bytes ≡ n = cc in
           let few = ((in_range 1 most_links (first_byte bytes)).0 q).1 in
           (rw q (ap (λ k. count_bytes + k) same), omega (arith, same, few))
       by false q e = absurd (let z : ◌≡◌ {A = ℕ} 0 1 = cc in omega arith)
@@ -120,6 +120,6 @@ module _ (bytes : List ℕ) where
   unfolding first_size
   size_uncounted e = by (within 1 most_links (first_byte bytes)) refl e
     where
-      by : (x : Bool) → within 1 most_links (first_byte bytes) ≡ x → if_passed x (Some (1 + first_byte bytes * link_bytes)) None ≡ None → first_size bytes ≡ count_bytes
+      by : (x : Bool) → within 1 most_links (first_byte bytes) ≡ x → if_passed x (Some (guard_bytes + first_byte bytes * link_bytes)) None ≡ None → first_size bytes ≡ count_bytes
       by true q e = absurd (let z : ◌≡◌ {A = ℕ} 0 1 = cc in omega arith)
       by false q e = rw q refl

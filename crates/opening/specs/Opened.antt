@@ -5,7 +5,7 @@ use Rattle.units.specs.Limits.{most_links}
 use Rattle.units.specs.Lists.{within, if_so, count_from}
 use Rattle.units.specs.Search as search
 use Rattle.units.specs.declared.Refusal.{Refusal}
-use Rattle.layout.specs.Layout.{count_bytes, lead_bytes, link_bytes}
+use Rattle.layout.specs.Layout.{count_bytes, guard_bytes, lead_bytes, link_bytes}
 use Rattle.units.specs.Refusals.{bad_size, bad_length, number, number_of}
 use Rattle.layout.specs.Records.{if_passed, link_read}
 use Rattle.layout.specs.Values.{link_values}
@@ -42,17 +42,17 @@ first_byte bytes = get_or bytes 0 0
 
 -- document 02's 'a second byte, the guard'
 abbrev pub guard_byte : List ℕ → ℕ
-guard_byte bytes = get_or bytes 1 0
+guard_byte bytes = get_or bytes count_bytes 0
 
 -- how many bytes a first byte has behind it before the orders: the guard and as many link records as it counts; none where its count is
 -- out of range
 abbrev pub rest_size : ℕ → Option ℕ
-rest_size count = if_passed (within 1 most_links count) (Some (1 + count * link_bytes)) None
+rest_size count = if_passed (within 1 most_links count) (Some (guard_bytes + count * link_bytes)) None
 
 -- 'one byte with the count of links', the guard, 'the links, then orders': how many bytes stand before the orders. A count out of range has
 -- nothing behind it
 unfoldable pub first_size : List ℕ → ℕ
-first_size bytes = count_bytes + if_so (within 1 most_links (first_byte bytes)) (1 + first_byte bytes * link_bytes)
+first_size bytes = count_bytes + if_so (within 1 most_links (first_byte bytes)) (guard_bytes + first_byte bytes * link_bytes)
 
 -- 'a first byte (12), its range (1), enough bytes for the links (12), each record in turn (11)'; 0 if all are passed. Where the guard is
 -- missing (12) there aren't enough bytes for the links

@@ -11,7 +11,7 @@ ghost use Rattle.report.specs.Written.{Wrote};
 ghost use Rattle.opening.specs.Opened.{links_refusal, links_in, first_byte, rest_size, bytes_refusal, opened, desk_report};
 
 use desk_core::set_up;
-use layout::{COUNT_BYTES, LEAD_BYTES, LINK_BYTES};
+use layout::{COUNT_BYTES, GUARD_BYTES, LEAD_BYTES, LINK_BYTES};
 use lent::Desk;
 use reading::read_link;
 use report::{Report, write_line};
@@ -39,7 +39,7 @@ pub fn rest_size(count: u8) -> Option<usize>
     if !(1..=LINKS).contains(&count) {
         return None;
     }
-    Some(1 + count * LINK_BYTES)
+    Some(GUARD_BYTES + count * LINK_BYTES)
 }
 
 // The links of a session's first bytes: 12 without a first byte, 1 for its range, 12 for too few bytes, with or without a guard, 11

@@ -1,5 +1,5 @@
 -- A list of bookings of any kind of desk: their numbers, their order in the book, and which still stand. It knows nothing of
--- bandwidth: a booking is what its kind says that its number and its end are.
+-- bandwidth: a booking is what its kind says that its number is, and when it is released.
 use Rattle.std.specs.Prelude.{List, [], ◌∷◌, map, Bool, true, false, not, ℕ, ltb, eqb}
 use Rattle.units.specs.Lists.{member, select}
 
@@ -29,6 +29,6 @@ module _ {B : Type 0} (number : B → ℕ) where
   by_number [] = []
   by_number (b ∷ bs) = insert_by_number b (by_number bs)
 
--- those that still stand at that clock: their end is later
+-- those that still stand at that clock: what they hold is released later
 abbrev pub standing_at : {B : Type 0} → (B → ℕ) → ℕ → List B → List B
 standing_at until clock bs = select (λ b. ltb clock (until b)) bs

@@ -1,4 +1,4 @@
--- What rebuilding gives: the events and free figures of a clock and the first places of a book, booking by booking.
+-- What rebuilding gives: the events and free figures of a head and the first places of a book, booking by booking.
 use Rattle.std.specs.Prelude.{◌≡◌, List, [], ◌∷◌, Bool, ℕ, ◌*◌, ◌≤◌, ◌<◌, length, take, get_or}
 use Rattle.units.specs.Limits.{most_links, most_hops, most_bookings, most_events, place_size, last_minute, longest, most_guard}
 use Rattle.units.specs.Lists.{all, All, Within, padded}

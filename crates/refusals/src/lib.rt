@@ -10,12 +10,12 @@ ghost use Rattle.rules.specs.Tables.{held, held_by, lent_checks, table_checks};
 ghost use Rattle.lent.specs.Lent.{tables_in};
 
 use lent::LentTables;
-use limits::{links_right, number_ok, request_ok, sized};
+use limits::{guard_ok, links_right, number_ok, request_ok, sized};
 use places::find;
 use soundness::sound;
 use units::{
-    BOOKINGS, Duration, Head, LIST_FIGURES, LinkNumber, MAX_GUARD, MAX_MINUTE, MAX_SHOWN, Minute,
-    PLACE, Refusal, Request, low_minute,
+    BOOKINGS, Duration, Head, LIST_FIGURES, LinkNumber, MAX_MINUTE, MAX_SHOWN, Minute, PLACE,
+    Refusal, Request, low_minute,
 };
 
 // The first check of its own that an offer does not pass.
@@ -98,7 +98,7 @@ pub fn check_set_up(tables: &LentTables<'_>, guard: Duration) -> Result<(), Refu
     if !sized(tables) {
         return Err(Refusal::BadSize);
     }
-    if MAX_GUARD < guard.0 {
+    if !guard_ok(guard) {
         return Err(Refusal::BadField);
     }
     if !links_right(tables.links) {

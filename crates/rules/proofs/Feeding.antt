@@ -53,6 +53,7 @@ rightly_fed = record {
   set_up_guards = λ p guard. refl;
   guard_stays = guard_kept;
   booking_adds = booking_added;
+  cancelled_gone = λ p n. (refl, refl);
   clock_set = λ p m. refl;
   ended_dropped = λ p m i. select (λ b. ltb m (end_and_guard b.grant.start b.terms.duration p.guard i)) p.bookings;
   offer_keeps = λ p r a. refl;

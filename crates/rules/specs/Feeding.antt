@@ -1,14 +1,14 @@
--- What document 01 says of the plain book as it is fed, but for which booking a cancellation takes out. The tables that a call
--- leaves are those of the plain book's next state, so that state has to be right by itself.
-use Rattle.std.specs.Prelude.{◌≡◌, [], ◌∷◌, ℕ, ◌+◌, ltb}
+-- What document 01 says of the plain book as it is fed. The tables that a call leaves are those of the plain book's next state, so
+-- that state has to be right by itself.
+use Rattle.std.specs.Prelude.{◌≡◌, [], ◌∷◌, not, ℕ, ◌+◌, ltb, eqb}
 use Rattle.units.specs.declared.Request.{Request}
 use Rattle.units.specs.Lists.{select}
 use Rattle.choice.specs.Choice.{Grant}
 use Rattle.rules.specs.Plain.{Plain, terms}
-use Rattle.rules.specs.Calls.{Ask, book, offer, list, move_clock, show, Call, set_up, ask, Answer, done, starts, refuse, next}
+use Rattle.rules.specs.Calls.{Ask, book, offer, list, cancel, move_clock, show, Call, set_up, ask, Answer, done, starts, refuse, next}
 
 pub record RightlyFed : Type 0 where
-  -- 'set-up makes the clock 0 and the list empty', and 'writes the guard as asked'
+  -- 'set-up makes the clock 0 and the list empty', and writes the guard 'as asked'
   pub set_up_empties : (p : Plain) (guard : ℕ) → ((next p (set_up guard) done).clock ≡ 0) × ((next p (set_up guard) done).bookings ≡ [])
   pub set_up_guards : (p : Plain) (guard : ℕ) → (next p (set_up guard) done).guard ≡ guard
   -- which no other call changes
@@ -16,6 +16,8 @@ pub record RightlyFed : Type 0 where
   -- 'booking adds one, start and path as answered, the rest as asked', and the clock stays
   pub booking_adds : (p : Plain) (n : ℕ) (r : Request) (g : Grant)
       → ((next p (ask (book n r)) (starts g)).bookings ≡ record { number = n; terms = terms r; grant = g } ∷ p.bookings) × ((next p (ask (book n r)) (starts g)).clock ≡ p.clock)
+  -- 'cancelling takes out the one of that number', and the clock stays
+  pub cancelled_gone : (p : Plain) (n : ℕ) → ((next p (ask (cancel n)) done).bookings ≡ select (λ b. not (eqb n b.number)) p.bookings) × ((next p (ask (cancel n)) done).clock ≡ p.clock)
   -- 'a clock move sets the clock and takes out all whose end is at or before it', which goes by 'end plus guard'
   pub clock_set : (p : Plain) (m : ℕ) → (next p (ask (move_clock m)) done).clock ≡ m
   pub ended_dropped : (p : Plain) (m : ℕ) → (next p (ask (move_clock m)) done).bookings ≡ select (λ b. ltb m (b.grant.start + b.terms.duration + p.guard)) p.bookings

@@ -1,4 +1,4 @@
--- What sound tables are, read without a test: document 01's rules for links, clock and book, and the tables that they give.
+-- What sound tables are, read without a test: document 01's rules for links, clock, guard and book, and the tables that they give.
 use Rattle.std.specs.Prelude.{◌≡◌, ◌↔◌, ◌≢◌, List, true, ◌≤◌, ◌<◌, length}
 use Rattle.units.specs.declared.Link.{Link}
 use Rattle.units.specs.Limits.{last_node, most_bookings, last_number, most_bandwidth, longest, last_minute, most_guard}

@@ -83,6 +83,9 @@ held_by head places = record { clock = head.clock.0; guard = head.guard.0; booki
 abbrev pub held : Tables → Plain
 held t = held_by t.head t.book
 
+abbrev pub guard_ok : ℕ → Bool
+guard_ok guard = leb guard most_guard
+
 abbrev pub link_ok : Link → Bool
 link_ok l = ends_ok l.from l.to && within 1 most_bandwidth l.capacity.0
 
@@ -114,7 +117,7 @@ sized links t = sizes_ok (length links) (length t.events) (length t.free) (lengt
 -- a standing booking that holds a link before the clock holds it at the clock
 unfoldable pub sound_with : List Link → Tables → Plain → Bool
 sound_with links t p =
-    links_ok links && leb p.clock last_minute && leb p.guard most_guard && leb t.head.bookings most_bookings && rising 0 (numbers p.bookings)
+    links_ok links && leb p.clock last_minute && guard_ok p.guard && leb t.head.bookings most_bookings && rising 0 (numbers p.bookings)
     && all (booking_ok links p) p.bookings && all (none_oversold links p) (events_of p) && same t (tables links p)
 
 unfoldable pub sound : List Link → Tables → Bool
@@ -126,11 +129,15 @@ lent_checks links t fits = check refusals.bad_size (sized links t) ∷ check ref
 
 -- document 02's check of a set-up's guard
 abbrev pub guard_check : ℕ → Check
-guard_check guard = check refusals.bad_field (leb guard most_guard)
+guard_check guard = check refusals.bad_field (guard_ok guard)
+
+-- what a set-up is checked for behind the sizes
+abbrev pub set_up_checks : List Link → ℕ → List Check
+set_up_checks links guard = guard_check guard ∷ check refusals.bad_link (links_ok links) ∷ []
 
 -- the checks of the tables, which come first
 abbrev pub table_checks : List Link → Tables → Call → List Check
-table_checks links t (set_up_with guard) = check refusals.bad_size (sized links t) ∷ guard_check guard ∷ check refusals.bad_link (links_ok links) ∷ []
+table_checks links t (set_up_with guard) = check refusals.bad_size (sized links t) ∷ set_up_checks links guard
 table_checks links t (ask a) = lent_checks links t (list_fits a)
 
 -- the tables as they are lent

@@ -14,7 +14,7 @@ use Rattle.std.proofs.lemmas.List.{take-append-drop, length-take-le}
 use Rattle.units.specs.Limits.{most_links}
 use Rattle.units.specs.Lists.{Within, within, if_so, All}
 use Rattle.units.specs.Refusals.{bad_size, bad_length}
-use Rattle.layout.specs.Layout.{count_bytes, lead_bytes, link_bytes, order_bytes}
+use Rattle.layout.specs.Layout.{count_bytes, guard_bytes, lead_bytes, link_bytes, order_bytes}
 use Rattle.layout.specs.Records.{if_passed}
 use Rattle.report.specs.Decimal.{decimal}
 use Rattle.opening.specs.Opened.{first_byte, first_size, bytes_refusal, opened}
@@ -55,7 +55,7 @@ unfolding bytes_refusal first_size
 start_whole bytes e = by (eqb (length bytes) 0) (within 1 most_links (first_byte bytes)) (leb (lead_bytes + first_byte bytes * link_bytes) (length bytes)) refl _ e
   where
     by : (none counted enough : Bool) → leb (lead_bytes + first_byte bytes * link_bytes) (length bytes) ≡ enough → (n : ℕ)
-        → if_passed none bad_length (if_passed counted (if_passed enough n bad_length) bad_size) ≡ 0 → count_bytes + if_so counted (1 + first_byte bytes * link_bytes) ≤ length bytes
+        → if_passed none bad_length (if_passed counted (if_passed enough n bad_length) bad_size) ≡ 0 → count_bytes + if_so counted (guard_bytes + first_byte bytes * link_bytes) ≤ length bytes
     by true counted enough q n e = absurd (omega arith)
     by false false enough q n e = absurd (omega arith)
     by false true false q n e = absurd (omega arith)

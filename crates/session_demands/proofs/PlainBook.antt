@@ -5,7 +5,7 @@ use mathlib.Core.Bool.{Bool, true, false}
 use Prim.Native.Nat.{ℕ, ◌+◌, ◌*◌, ◌≤◌}
 use native.Mathlib.Omega.{arith}
 use borrow.Author.Tests.{eqb-true}
-use lib.Dec.{eqb, leb}
+use lib.Dec.{eqb}
 use lib.ListN.{length, drop, length-replicate}
 use Rattle.std.specs.Prelude.{Result, Ok, Err}
 use Rattle.std.proofs.lemmas.List.{length-map}
@@ -23,7 +23,7 @@ use Rattle.histories.specs.Kinds as kinds
 use Rattle.histories.proofs.Checks.{Passed, passed_number}
 use Rattle.rules.specs.Plain.{Plain, empty}
 use Rattle.rules.specs.Calls.{set_up, done, refuse, values, check, checked, first_refusal}
-use Rattle.rules.specs.Tables.{tables, sized, links_ok, guard_check}
+use Rattle.rules.specs.Tables.{tables, sized, guard_ok, links_ok, set_up_checks}
 use Rattle.rules.specs.Desk.{outcome}
 use Rattle.rules.specs.Sound.{LinkRight, Obeys}
 use Rattle.rules.proofs.Tests.{links_tell, sized_tells}
@@ -64,7 +64,7 @@ blank_sized links count =
 -- 'then the set-up (2)', with the guard's range (4)
 set_up_number : (links : List Link) (guard : ℕ) → Within 1 most_links (length links) → (values (outcome links blank (set_up guard)).answer).number ≡ start_refusal links guard
 unfolding kinds.outcome kinds.answer_on checked
-set_up_number links guard count = rw (blank_sized links count) (by (leb guard most_guard) (links_ok links))
+set_up_number links guard count = rw (blank_sized links count) (by (guard_ok guard) (links_ok links))
   where
     by : (short ok : Bool) → (values (checked refuse (check bad_field short ∷ check bad_link ok ∷ []) (checked refuse (check bad_field short ∷ []) done))).number
         ≡ first_refusal (check bad_field short ∷ check bad_link ok ∷ [])
@@ -118,7 +118,7 @@ module _ (bytes : List ℕ) where
     unfolding opened
     set_up_is = rw passed refl
 
-    checks_passed : Passed (guard_check asked_guard ∷ check bad_link (links_ok found) ∷ [])
+    checks_passed : Passed (set_up_checks found asked_guard)
     checks_passed = passed_number _ (omega arith, (omega arith, tt)) (sym (set_up_number found asked_guard (counted bytes passed)) ∙ ap (λ o. o.answer.refusal) (sym set_up_is) ∙ accepted)
 
     pub right : All LinkRight found

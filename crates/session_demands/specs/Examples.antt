@@ -48,9 +48,9 @@ pub record RefusesStarts (program : List ℕ → List ℕ) : Type 0 where
   pub no_byte : program [] ≡ codes "desk refused 12\n"
   pub no_links : program (0 ∷ []) ≡ codes "desk refused 1\n"
   pub too_many : program (65 ∷ []) ≡ codes "desk refused 1\n"
-  -- the guard is missing, or a byte of the link
+  -- the guard is missing, or a byte of the link, which comes before a guard that is too long
   pub no_guard : program (1 ∷ []) ≡ codes "desk refused 12\n"
-  pub too_few_bytes : program (1 ∷ 0 ∷ 0x00 ∷ 0x40 ∷ 0x00 ∷ 0x28 ∷ 0x00 ∷ 0x00 ∷ 0x00 ∷ []) ≡ codes "desk refused 12\n"
+  pub too_few_bytes : program (1 ∷ 16 ∷ 0x00 ∷ 0x40 ∷ 0x00 ∷ 0x28 ∷ 0x00 ∷ 0x00 ∷ 0x00 ∷ []) ≡ codes "desk refused 12\n"
   -- the last bit of a link is set; the guard is too long, which comes behind it
   pub bits_set : program (1 ∷ 16 ∷ 0x00 ∷ 0x40 ∷ 0x00 ∷ 0x28 ∷ 0x00 ∷ 0x00 ∷ 0x00 ∷ 0x01 ∷ []) ≡ codes "desk refused 11\n"
   -- the guard is too long, and the link, which comes behind it, from node 0 to itself

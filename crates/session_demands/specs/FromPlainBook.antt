@@ -4,14 +4,13 @@ use Rattle.units.specs.declared.Link.{Link}
 use Rattle.units.specs.declared.Refusal.{Refusal}
 use Rattle.units.specs.Limits.{most_links}
 use Rattle.units.specs.Lists.{Within}
-use Rattle.units.specs.Refusals.{bad_link}
 use Rattle.layout.specs.declared.Order.{Order}
 use Rattle.layout.specs.Records.{if_passed, order_read}
 use Rattle.report.specs.declared.Report.TheVariants.{DeskLinks, DeskRefused}
 use Rattle.report.specs.Line.{line}
 use Rattle.rules.specs.Plain.{Plain, empty}
-use Rattle.rules.specs.Calls.{Answer, check, first_refusal, values, next}
-use Rattle.rules.specs.Tables.{guard_check, links_ok, tables}
+use Rattle.rules.specs.Calls.{Answer, first_refusal, values, next}
+use Rattle.rules.specs.Tables.{set_up_checks, tables}
 use Rattle.rules.specs.Desk.{answer_with}
 use Rattle.rules.specs.Sound.{Obeys}
 use Rattle.opening.specs.Opened.{first_byte, guard_byte, first_size, links_in, bytes_refusal, Told}
@@ -47,7 +46,7 @@ plain_lines links p place (order ∷ orders) = line_at place (plain_told links p
 
 -- what a set-up is refused with, 0 if it is accepted
 abbrev pub start_refusal : List Link → ℕ → ℕ
-start_refusal links guard = first_refusal (guard_check guard ∷ check bad_link (links_ok links) ∷ [])
+start_refusal links guard = first_refusal (set_up_checks links guard)
 
 -- the start: the bytes are checked, then the guard, then the links
 abbrev pub plain_start : List ℕ → Told

@@ -21,7 +21,7 @@ tidy b = leb b.count most_hops && all_zero (drop b.count b.links)
 unfoldable pub book_ok : List Link → List ℕ → Plain → Bool
 book_ok links book p = rising 0 (numbers p.bookings) && all (booking_ok links p) p.bookings && equal book (book_table p)
 
--- no link is oversold, and events and free figures are the ones that links, clock and book give
+-- no link is oversold, and events and free figures are the ones that links, clock, guard and book give
 pub record FiguresRight (links : List Link) (p : Plain) (events free : List ℕ) : Type 0 where
   pub not_oversold : NotOversold links p
   pub events_are : events ≡ event_table p

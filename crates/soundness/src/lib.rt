@@ -1,5 +1,5 @@
 // Document 01's 'sound': links and book obey the rules, no link is oversold, and head, events and free figures are the
-// ones that links, clock and book give. Every call but the set-up asks this first. Nothing here writes a lent table.
+// ones that links, clock, guard and book give. Every call but the set-up asks this first. Nothing here writes a lent table.
 #![tactic(auto)]
 
 ghost use Rattle.std.specs.Prelude.{◌≡◌, [], true, ◌↔◌, ◌≤◌};
@@ -17,12 +17,12 @@ mod checked;
 use book::{Booking, booking_at};
 use checked::CheckedLinks;
 use lent::LentTables;
-use limits::{links_right, number_ok};
+use limits::{guard_ok, links_right, number_ok};
 use path_search::NODES;
 use rebuild::rebuild;
 use units::{
-    BOOKINGS, EVENTS, FREE_FIGURES, Head, MAX_BANDWIDTH, MAX_DURATION, MAX_GUARD, MAX_MINUTE,
-    PATH_LINKS, PLACE, release,
+    BOOKINGS, EVENTS, FREE_FIGURES, Head, MAX_BANDWIDTH, MAX_DURATION, MAX_MINUTE, PATH_LINKS,
+    PLACE, release,
 };
 
 // Whether a booking's path has a link, each begins where the one before ended, and no node is met twice.
@@ -100,7 +100,7 @@ fn book_right(head: Head, links: CheckedLinks<'_>, book: &[u32]) -> bool
     all_zero(&book[count * PLACE..])
 }
 
-// Whether no link is oversold, and events and free figures are the ones that links, clock and book give.
+// Whether no link is oversold, and events and free figures are the ones that links, clock, guard and book give.
 fn figures_right(tables: &LentTables<'_>) -> bool
     requires { CanRebuild tables.now.links.now tables.now.head tables.now.book.now tables.now.events.now tables.now.free.now }
     ensures { (result ≡ true) ↔ FiguresRight tables.now.links.now (held (tables_in tables.now)) tables.now.events.now tables.now.free.now }
@@ -132,7 +132,7 @@ pub fn sound(tables: &LentTables<'_>) -> bool
     if MAX_MINUTE < head.clock.0 {
         return false;
     }
-    if MAX_GUARD < head.guard.0 {
+    if !guard_ok(head.guard) {
         return false;
     }
     if head.links as usize != tables.links.len() {

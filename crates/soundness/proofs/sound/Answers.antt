@@ -1,13 +1,15 @@
 -- `sound` meets its contract: each check that fails is one that sound tables pass, and tables that pass all are sound.
 use mathlib.Core.Path.{◌≡◌, sym, ◌∙◌}
-use mathlib.Core.Bool.{true}
+use mathlib.Core.Bool.{Bool, true}
+use Prim.Native.Nat.{ℕ, ◌≤◌}
 use native.Mathlib.Omega.{arith}
 use Rattle.units.proofs.Search.{clash}
-use Rattle.rules.specs.Tables.{held, sound}
+use Rattle.rules.specs.Tables.{held, guard_ok, sound}
 use Rattle.lent.specs.Lent.{tables_in}
 use Rattle.soundness.specs.Checking.{book_ok, BookFits}
 use Rattle.rules.proofs.Tests.{Sized, sized_tells}
-use Rattle.units.proofs.Tests.{same_test}
+use Rattle.units.specs.Limits.{most_guard}
+use Rattle.units.proofs.Tests.{same_test, at_most}
 use Rattle.soundness.proofs.Tidy.{book_tells, book_counts}
 use Rattle.soundness.proofs.Passing.{checked_sound, sound_checked, unsound}
 use Rattle.soundness.proofs.sound.Goals as goal
@@ -25,8 +27,12 @@ returns-then-not-links_right c = let t = c.args.tables.now in unsound t.links.no
 pub returns-then-head-gt-MAX_MINUTE : goal.returns-then-head-gt-MAX_MINUTE
 returns-then-head-gt-MAX_MINUTE c = let t = c.args.tables.now in unsound t.links.now (tables_in t) (λ k. omega (arith, k.clock_right, c.if-head-gt-MAX_MINUTE.true))
 
-pub returns-then-head-gt-MAX_GUARD : goal.returns-then-head-gt-MAX_GUARD
-returns-then-head-gt-MAX_GUARD c = let t = c.args.tables.now in unsound t.links.now (tables_in t) (λ k. omega (arith, k.guard_right, c.if-head-gt-MAX_GUARD.true))
+-- a guard that is found to be in range
+guard_right : (guard : ℕ) (found : Bool) → found ≡ guard_ok guard → found ≡ true → guard ≤ most_guard
+guard_right guard found e f = (at_most guard most_guard).0 (sym e ∙ f)
+
+pub returns-then-not-guard_ok : goal.returns-then-not-guard_ok
+returns-then-not-guard_ok c = let t = c.args.tables.now in unsound t.links.now (tables_in t) (λ k. clash ((at_most t.head.guard.0 most_guard).1 k.guard_right) (sym c.guard_ok.ensures ∙ c.if-not-guard_ok.true))
 
 pub returns-then-head-tables : goal.returns-then-head-tables
 returns-then-head-tables c = let t = c.args.tables.now in unsound t.links.now (tables_in t) (λ k. c.if-head-tables.true k.links_counted)
@@ -47,7 +53,7 @@ figures_right-requires c =
       free_sized = size.free_right;
       book_sized = size.book_right;
       few_bookings = c.if-head-gt-BOOKINGS.false;
-      short_guard = c.if-head-gt-MAX_GUARD.false;
+      short_guard = guard_right t.head.guard.0 _ c.guard_ok.ensures c.if-not-guard_ok.false;
       counts_right = book_counts links t.head t.book.now (book_fits at.Else-head-gt-BOOKINGS) passed;
       bookings_right = ((book_tells links t.book.now (held (tables_in t))).0 passed).0.1;
     }
@@ -59,7 +65,7 @@ returns-then-book_right c =
     (λ e. checked_sound t.links.now (tables_in t) (record {
       links_right = sym c.links_right.ensures ∙ c.if-not-links_right.false;
       clock_right = c.if-head-gt-MAX_MINUTE.false;
-      guard_right = c.if-head-gt-MAX_GUARD.false;
+      guard_right = guard_right t.head.guard.0 _ c.guard_ok.ensures c.if-not-guard_ok.false;
       links_counted = c.if-head-tables.false;
       few_bookings = c.if-head-gt-BOOKINGS.false;
       book_right = sym c.book_right.ensures ∙ c.if-book_right.true;
