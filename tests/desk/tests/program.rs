@@ -72,7 +72,7 @@ fn sessions_of_three_blocks() {
 
 #[test]
 fn the_samples() {
-    for name in ["session", "busy_day", "full_book", "damaged", "guard"] {
+    for name in ["session", "busy_day", "full_book", "damaged", "guarded_day"] {
         let folder = root().join("samples");
         let orders = std::fs::read(folder.join(format!("{name}.orders"))).expect("a sample");
         let due = std::fs::read_to_string(folder.join(format!("{name}.expected"))).expect("its lines");
