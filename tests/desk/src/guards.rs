@@ -110,6 +110,21 @@ impl Counts {
         )
     }
 
+    /// The same as counts, each with the least that will do.
+    pub fn of_orders_enough(&self) -> [(&'static str, u32, u32); 9] {
+        [
+            ("moved by a guard", self.moved, 1_000),
+            ("led over other links by a guard", self.led_over_other_links, 100),
+            ("refused 8 by a guard", self.refused, 300),
+            ("refused 6 by a number in its guard", self.number_in_guard, 300),
+            ("refused 7 by bookings in their guard", self.full_by_guards, 300),
+            ("clock moves that keep a booking in its guard", self.kept, 1_000),
+            ("clock moves to the end of a guard", self.moved_to_guarded_end, 300),
+            ("cancelled in its guard", self.cancelled_in_guard, 300),
+            ("held behind minute 1,000,525,599", self.late_guards, 20),
+        ]
+    }
+
     /// What bears on any call, for print.
     pub fn of_calls(&self) -> String {
         let [_, sizes, links, _, guards] = self.set_up_refused;

@@ -5,7 +5,7 @@ use desk_tests::plain::{Desk, Start, Walk};
 use desk_tests::sessions::History;
 use desk_tests::tables::Tables;
 use desk_tests::{Link, Request};
-use support::{Random, Seed};
+use support::{assert_enough, Random, Seed};
 
 const SEED: u64 = 0x0DE5_4000;
 const HISTORIES: u64 = 1_000;
@@ -91,7 +91,5 @@ fn no_offer_is_later_after_a_cancellation() {
         ("earlier by the guard of the cancelled one", counts.earlier_by_its_guard, 200),
         ("tried at every minute", counts.tried_at_every_minute, 100_000),
     ];
-    for (what, count, least) in enough {
-        assert!(count >= least, "{what}: {count} of {least}, seeds from {SEED:#x}");
-    }
+    assert_enough(&enough, SEED);
 }

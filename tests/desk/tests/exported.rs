@@ -10,7 +10,7 @@ use desk_tests::plain::{Answer, Call, Desk};
 use desk_tests::sessions::History;
 use desk_tests::tables::{self, Tables};
 use desk_tests::{listings, Link, Request, LIST_FIGURES, MAX_GUARD};
-use support::{Random, Seed};
+use support::{assert_enough, Random, Seed};
 
 const SEED: u64 = 0xDE5_C000;
 
@@ -72,24 +72,14 @@ fn random_histories() {
     println!("{}", guards.of_calls());
     let enough = [
         ("calls under each guard", *guards.by_guard.iter().min().expect("a guard"), 5_000),
-        ("moved by a guard", guards.moved, 1_000),
-        ("led over other links by a guard", guards.led_over_other_links, 100),
-        ("refused 8 by a guard", guards.refused, 300),
-        ("refused 6 by a number in its guard", guards.number_in_guard, 300),
-        ("refused 7 by bookings in their guard", guards.full_by_guards, 300),
-        ("clock moves that keep a booking in its guard", guards.kept, 1_000),
-        ("clock moves to the end of a guard", guards.moved_to_guarded_end, 300),
-        ("cancelled in its guard", guards.cancelled_in_guard, 300),
         ("listed otherwise by a guard", guards.listed_otherwise, 1_000),
         ("less shown by a guard", guards.less_shown, 300),
         ("shown behind minute 1,000,525,600", guards.late_shown, 300),
         ("shown at the last minute", guards.last_shown, 300),
         ("refused past the last minute", guards.past_last, 300),
-        ("held behind minute 1,000,525,599", guards.late_guards, 20),
     ];
-    for (what, count, least) in enough {
-        assert!(count >= least, "{what}: {count} of {least}, seeds from {SEED:#x}");
-    }
+    assert_enough(&enough, SEED);
+    assert_enough(&guards.of_orders_enough(), SEED);
 }
 
 /// How often the calls were listings, and what these answered.

@@ -8,7 +8,7 @@ use desk_tests::plain::{Answer, Booking, Call, Desk};
 use desk_tests::sessions::{fullest, session, History};
 use desk_tests::tables::{self, Tables};
 use desk_tests::{Link, MAX_DURATION, MAX_GUARD, MAX_MINUTE};
-use support::{Random, Seed};
+use support::{assert_enough, Random, Seed};
 
 const SESSIONS: u64 = 3_000;
 const SEED: u64 = 0x0DE5_1000;
@@ -157,19 +157,9 @@ fn sessions_cover_everything() {
         ("long sessions", counts.long_sessions, 50),
         ("cut-off ends", counts.cut_off, 300),
         ("empty input", counts.empty, 10),
-        ("moved by a guard", guards.moved, 1_000),
-        ("led over other links by a guard", guards.led_over_other_links, 100),
-        ("refused 8 by a guard", guards.refused, 300),
-        ("refused 6 by a number in its guard", guards.number_in_guard, 300),
-        ("refused 7 by bookings in their guard", guards.full_by_guards, 300),
-        ("clock moves that keep a booking in its guard", guards.kept, 1_000),
-        ("clock moves to the end of a guard", guards.moved_to_guarded_end, 300),
-        ("cancelled in its guard", guards.cancelled_in_guard, 300),
-        ("held behind minute 1,000,525,599", guards.late_guards, 20),
     ];
-    for (what, count, least) in enough {
-        assert!(count >= least, "{what}: {count} of {least}, seeds from {SEED:#x}");
-    }
+    assert_enough(&enough, SEED);
+    assert_enough(&guards.of_orders_enough(), SEED);
 }
 
 #[test]

@@ -9,7 +9,7 @@ use desk_tests::listings::{self, KINDS};
 use desk_tests::plain::{Desk, Range, Start};
 use desk_tests::tables::{self, Tables};
 use desk_tests::{Link, Request, BOOKINGS, EVENTS, LINKS, LIST_FIGURES, MAX_DURATION, MAX_MINUTE};
-use support::{Random, Seed};
+use support::{assert_enough, Random, Seed};
 
 const SEED: u64 = 0x0DE5_7000;
 const DESKS: u64 = 4_000;
@@ -113,9 +113,7 @@ fn desks_of_many_kinds() {
         ("one more", counts.one_more, 1_000),
         ("windows tried at every minute", counts.short_windows, 1_000),
     ];
-    for (what, count, least) in enough {
-        assert!(count >= least, "{what}: {count} of {least}, seeds from {SEED:#x}");
-    }
+    assert_enough(&enough, SEED);
     assert!(counts.most_ranges >= 20, "{counts:?}");
 }
 

@@ -1,5 +1,5 @@
-//! What the tests share: a link and a request as the headers have them, random numbers from a fixed seed, and a seed that
-//! is printed when a test fails.
+//! What the tests share: a link and a request as the headers have them, random numbers from a fixed seed, a seed that is
+//! printed when a test fails, and counts that must be large enough.
 
 #[repr(C)]
 #[derive(Clone, Copy, Debug, PartialEq, Eq, Default)]
@@ -61,5 +61,12 @@ impl Drop for Seed {
         if std::thread::panicking() {
             println!("failed with seed {:#x}", self.0);
         }
+    }
+}
+
+/// Asserts that each of these has occurred often enough: what it is, how often it has, and how often it must.
+pub fn assert_enough(counts: &[(&str, u32, u32)], seed: u64) {
+    for (what, count, least) in counts {
+        assert!(count >= least, "{what}: {count} of {least}, seeds from {seed:#x}");
     }
 }
