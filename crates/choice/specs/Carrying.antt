@@ -6,6 +6,6 @@ use Rattle.units.specs.Search.{all_from}
 abbrev pub suffices : ℕ → ℕ → Bool
 suffices bandwidth free = leb bandwidth free
 
--- document 01's 'at least the bandwidth free in every minute of the span', of link l and the span that starts at m
+-- document 01's 'at least the bandwidth free in every minute', of link l and the n minutes from m on
 abbrev pub carries : (ℕ → ℕ → ℕ) → ℕ → ℕ → ℕ → ℕ → Bool
-carries figure bandwidth span m l = all_from m span (λ k. suffices bandwidth (figure l k))
+carries figure bandwidth n m l = all_from m n (λ k. suffices bandwidth (figure l k))

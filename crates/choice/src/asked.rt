@@ -1,12 +1,14 @@
-// A search beside the tables of a desk: which of a window's minutes it can start in.
+// A search beside the tables of a desk: which of a window's minutes it can start in, and where every path from low on breaks off.
 
+ghost use Rattle.std.specs.Prelude.{◌≡◌, ℕ, ◌≤◌, ◌<◌, get_or};
+ghost use Rattle.units.specs.Limits.{most_links};
 ghost use Rattle.choice.specs.EventTables.{AreEvents};
 
 use crate::Granted;
 use crate::search::Search;
 use free_table::{FreeTable, Interval};
 use path_search::{LinkSet, Network, Path};
-use units::{Minute, Refusal, end_minute};
+use units::{LINKS, Minute, Refusal, Refused, end_minute};
 
 // What is asked of any start, and the events and figures of which.
 #[derive(Clone, Copy)]
@@ -16,22 +18,41 @@ pub struct Asked<'a, 'b> {
     pub ghost are_events: { AreEvents table.events.now },
 }
 
-impl Asked<'_, '_> {
-    ghost use Rattle.std.specs.Prelude.{◌≡◌, false};
-    ghost use Rattle.path_search.specs.Answer.{found_path};
-    ghost use Rattle.choice.specs.Answer.{route_of, possible_of, choice_of, AskableOf, chosen};
+// The least minute above one at which a link lacks the bandwidth first; the end where there is none.
+fn next_lacking(until: &[u32; LINKS], minute: Minute, end: Minute) -> Minute
+    requires { minute.0 < end.0 }
+    ensures later { minute.0 < result.0 }
+    ensures in_time { result.0 ≤ end.0 }
+    ensures least { (l : ℕ) → l < most_links → minute.0 < get_or until.now l 0 → result.0 ≤ get_or until.now l 0 }
+{
+    let mut next = end.0;
+    for &last in until {
+        if minute.0 < last && last < next {
+            next = last;
+        }
+    }
+    Minute(next)
+}
 
-    // The path of a start, over the links that have the bandwidth free throughout its span.
-    pub fn path_at(&self, start: Minute) -> Option<Path>
-        requires { AskableOf self.now start.0 start.0 }
-        ensures { result ≡ found_path (route_of self.now start.0) }
+impl Asked<'_, '_> {
+    ghost use Rattle.std.specs.Prelude.{◌≡◌, ◌≤◌, false, leb, get_or};
+    ghost use Rattle.units.specs.Limits.{last_shown};
+    ghost use Rattle.units.specs.Spans.{release};
+    ghost use Rattle.path_search.specs.Paths.{route};
+    ghost use Rattle.path_search.specs.Answer.{graph, found_path};
+    ghost use Rattle.choice.specs.Answer.{route_of, possible_of, choice_of, break_off_of, AskableOf, found_start, chosen};
+
+    // The path over the links that have the bandwidth free up to a minute, by where each of them lacks it first.
+    fn path_until(&self, until: &[u32; LINKS], end: Minute) -> Option<Path>
+        ensures { result ≡ found_path (route (graph self.now.search.now.ends) (λ l. leb end.0 (get_or until.now l 0)) self.now.search.now.destination self.now.search.now.source) }
     {
         let search = self.search;
-        let end = end_minute(start, search.span);
-        let minutes = Interval { start, end };
-        let usable = LinkSet {
-            has: self.table.lasting_links(minutes, search.bandwidth),
+        let mut usable = LinkSet {
+            has: [false; LINKS],
         };
+        for (link, has) in usable.has.iter_mut().enumerate() {
+            *has = end.0 <= until[link];
+        }
         let network = Network {
             ends: &search.ends,
             usable: &usable,
@@ -39,37 +60,78 @@ impl Asked<'_, '_> {
         network.find_route(search.source, search.destination)
     }
 
-    // The choice among the events after low: the first at which there is a path, up to the latest start.
-    pub fn choose_event(&self, low: Minute, latest: Minute) -> Result<Granted, Refusal>
+    // The path of a start, over the links that have the bandwidth free throughout its span.
+    pub fn path_at(&self, start: Minute) -> Option<Path>
+        requires { AskableOf self.now start.0 start.0 }
+        ensures { result ≡ found_path (route_of self.now start.0) }
+    {
+        let end = end_minute(start, self.search.span);
+        let until = self.table.until(Interval { start, end }, self.search.bandwidth);
+        self.path_until(&until, end)
+    }
+
+    // The first start at which there is a path, of the events after low, up to the latest start.
+    pub fn first_event(&self, low: Minute, latest: Minute) -> Option<Granted>
         requires askable { AskableOf self.now low.0 latest.0 }
         requires low_impossible { possible_of self.now low.0 ≡ false }
-        ensures { result ≡ chosen (choice_of self.now low.0 latest.0) }
+        ensures { result ≡ found_start (choice_of self.now low.0 latest.0) }
     {
         for &event in self.table.events {
             let start = Minute(event);
             if latest < start {
-                return Err(Refusal::NoStart);
+                return None;
             }
             if low < start {
                 if let Some(path) = self.path_at(start) {
-                    return Ok(Granted { start, path });
+                    return Some(Granted { start, path });
                 }
             }
         }
-        Err(Refusal::NoStart)
+        None
     }
 
-    // The earliest start of low to latest at which there is a path, with that path; refusal 8 where there is none.
-    pub fn choose(&self, low: Minute, latest: Minute) -> Result<Granted, Refusal>
+    // The earliest start of low to latest at which there is a path, with that path.
+    pub fn first_start(&self, low: Minute, latest: Minute) -> Option<Granted>
         requires { AskableOf self.now low.0 latest.0 }
-        ensures { result ≡ chosen (choice_of self.now low.0 latest.0) }
+        ensures { result ≡ found_start (choice_of self.now low.0 latest.0) }
     {
         if latest < low {
-            return Err(Refusal::NoStart);
+            return None;
         }
         if let Some(path) = self.path_at(low) {
-            return Ok(Granted { start: low, path });
+            return Some(Granted { start: low, path });
         }
-        self.choose_event(low, latest)
+        self.first_event(low, latest)
+    }
+
+    // The first minute from low on such that no path has the bandwidth free throughout low to it; the end of low's span where one
+    // lasts. Which links last changes only where one lacks the bandwidth first, so only there a path is searched again.
+    fn break_off(&self, low: Minute) -> Minute
+        requires { AskableOf self.now low.0 low.0 }
+        ensures { result.0 ≡ break_off_of self.now low.0 }
+    {
+        let end = end_minute(low, self.search.span);
+        let until = self.table.until(Interval { start: low, end }, self.search.bandwidth);
+        let mut minute = low;
+        while minute < end && self.path_until(&until, Minute(minute.0 + 1)).is_some() {
+            minute = next_lacking(&until, minute, end);
+        }
+        minute
+    }
+
+    // The earliest start of low to latest at which there is a path, with that path; refusal 8 where there is none, with the minute
+    // at which every path from low on breaks off.
+    pub fn choose(&self, low: Minute, latest: Minute) -> Result<Granted, Refused>
+        requires askable { AskableOf self.now low.0 latest.0 }
+        requires low_in_time { release low.0 self.now.search.now.span.0 ≤ last_shown }
+        ensures { result ≡ chosen (break_off_of self.now low.0) (choice_of self.now low.0 latest.0) }
+    {
+        if let Some(granted) = self.first_start(low, latest) {
+            return Ok(granted);
+        }
+        Err(Refused {
+            refusal: Refusal::NoStart,
+            at: self.break_off(low),
+        })
     }
 }

@@ -22,7 +22,7 @@ use Rattle.histories.specs.Kinds.{all_checks}
 use Rattle.histories.specs.Histories.{answers}
 use Rattle.demands.specs.Cancelling.{StartsBy, CancellingHarmless}
 use Rattle.rules.proofs.Uses.{taken_part}
-use Rattle.rules.proofs.Checks.{starts≢refuse, Passed, passed_answer, passed_all}
+use Rattle.rules.proofs.Checks.{starts≢refused, Passed, passed_answer, passed_all}
 use Rattle.rules.proofs.Tests.{sized_tells}
 use Rattle.rules.proofs.Choices.{choice_by, choice, chosen_granted}
 use Rattle.rules.proofs.Obeys.{sound_obeys}
@@ -40,7 +40,7 @@ module _ (links : List Link) (p q : Plain) (r : Request) (window : low p r ≡ l
 
 module _ (links : List Link) (t : Tables) (r : Request) (g : Grant) (offered : (outcome links t (ask (offer r))).answer ≡ starts g) where
   passed : Passed (all_checks bandwidth_desk links t (ask (offer r)))
-  passed = passed_all refuse (all_checks bandwidth_desk links t (ask (offer r))) (best links (held t) r) (λ k e. starts≢refuse (sym offered ∙ answer_is bandwidth_desk links t (ask (offer r)) ∙ e))
+  passed = passed_all refuse (all_checks bandwidth_desk links t (ask (offer r))) (best links (held t) r) (λ k e. starts≢refused (sym offered ∙ answer_is bandwidth_desk links t (ask (offer r)) ∙ e))
 
   best_before : best links (held t) r ≡ starts g
   best_before = sym (passed_answer refuse (all_checks bandwidth_desk links t (ask (offer r))) (best links (held t) r) passed) ∙ sym (answer_is bandwidth_desk links t (ask (offer r))) ∙ offered

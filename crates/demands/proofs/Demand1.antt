@@ -14,7 +14,7 @@ use Rattle.rules.specs.Desk.{bandwidth_desk, outcome}
 use Rattle.rules.proofs.Exits.{own_numbered}
 use Rattle.demands.specs.Demands.{Desk, Demand1, AsksStart, NotOtherwise, RefusalKeeps}
 use Rattle.demands.proofs.Lawful.{lawful}
-use Rattle.rules.proofs.Checks.{done≢refuse, starts≢refuse, lists≢refuse, shows≢refuse, refuse_same}
+use Rattle.rules.proofs.Checks.{done≢refused, starts≢refused, lists≢refused, shows≢refused, refuse_same}
 
 pub demand1 : Demand1 outcome
 demand1 = every_kind.demand1 bandwidth_desk lawful
@@ -22,18 +22,18 @@ demand1 = every_kind.demand1 bandwidth_desk lawful
 -- ---- in its other words, of any desk
 
 only_8 : (a : Answer) (k : ℕ) → StartOr8 a → a ≡ refuse k → k ≡ 8
-only_8 a k w e = ⊎_elim (λ s. starts≢refuse (sym s.1 ∙ e)) (λ f. refuse_same (sym e ∙ f)) w
+only_8 a k w e = ⊎_elim (λ s. starts≢refused (sym s.1 ∙ e)) (λ f. refuse_same (sym e ∙ f)) w
 
 form_8 : (c : Ask) (a : Answer) (k : ℕ) → InForm c a → a ≡ refuse k → AsksStart (ask c) × (k ≡ 8)
 form_8 (book n r) a k w e = (tt, only_8 a k w e)
 form_8 (offer r) a k w e = (tt, only_8 a k w e)
-form_8 (list n r) a k w e = lists≢refuse (sym w.1 ∙ e)
-form_8 (cancel n) a k w e = done≢refuse (sym w ∙ e)
-form_8 (move_clock m) a k w e = done≢refuse (sym w ∙ e)
-form_8 (show l m) a k w e = shows≢refuse (sym w.1 ∙ e)
+form_8 (list n r) a k w e = lists≢refused (sym w.1 ∙ e)
+form_8 (cancel n) a k w e = done≢refused (sym w ∙ e)
+form_8 (move_clock m) a k w e = done≢refused (sym w ∙ e)
+form_8 (show l m) a k w e = shows≢refused (sym w.1 ∙ e)
 
 pub not_otherwise : (desk : Desk) → Demand1 desk → NotOtherwise desk
-not_otherwise desk d links t (set_up_with s) k h e = done≢refuse (sym (d.in_form links t (set_up_with s) h) ∙ e)
+not_otherwise desk d links t (set_up_with s) k h e = done≢refused (sym (d.in_form links t (set_up_with s) h) ∙ e)
 not_otherwise desk d links t (ask a) k h e = form_8 a (desk links t (ask a)).answer k (d.in_form links t (ask a) h) e
 
 all_numbered : (links : List Link) (t : Tables) (c : Call) → Numbered (all_checks bandwidth_desk links t c)

@@ -23,7 +23,7 @@ use Rattle.rules.specs.Tables.{Tables, tables, same}
 use Rattle.rules.specs.Sound.{Obeys}
 use Rattle.rules.specs.Desk.{bandwidth_desk, Agree, answer}
 use Rattle.rules.proofs.Uses.{all_times, free_changes}
-use Rattle.rules.proofs.Checks.{done≢refuse, passed_answer}
+use Rattle.rules.proofs.Checks.{done≢refused, passed_answer}
 use Rattle.rules.proofs.Tests.{same_tells}
 use Rattle.rules.proofs.Obeys.{tables_permuted, tables_sound}
 use Rattle.rules.proofs.Step.{set_up_passed, set_up_leaves, obeys_empty, answers_plain, leaves_plain, stays_obeyed}
@@ -74,7 +74,7 @@ shown links p l m b k s = passed_answer refuse (own_checks links p (show l m)) (
 
 pub lawful : Lawful bandwidth_desk
 lawful = record {
-  done_differs = λ k e. done≢refuse e;
+  done_differs = λ k e. done≢refused e;
   in_form = in_form;
   Started = λ links. Within 1 most_links (length links);
   Obeys = Obeys;

@@ -32,7 +32,7 @@ use Rattle.demands.specs.Listing.{EveryStart}
 use Rattle.demands.specs.Cancelling.{StartsBy, CancellingHarmless}
 use Rattle.demands.specs.Guarding.{KeepsApart}
 use Rattle.demands.specs.Examples.{start_at, session_links, request}
-use Rattle.rules.proofs.Checks.{starts≢refuse}
+use Rattle.rules.proofs.Checks.{starts≢refused}
 
 shows≢done : {X : Type 0} {x : ℕ} → shows x ≡ done → X
 shows≢done e = let z : ◌≡◌ {A = ℕ} 0 1 = cc in absurd (omega arith)
@@ -209,7 +209,7 @@ not_one_later d =
     omega arith
 
 pub not_no_longer : ¬ CancellingHarmless (after_cancelling no_longer)
-not_no_longer d = starts≢refuse (sym (said_by_0 no_longer d).1)
+not_no_longer d = starts≢refused (sym (said_by_0 no_longer d).1)
 
 -- 8. a second set-up goes unheard: on a desk that is in use it is answered as a showing of 0, whose number is 0 too, and every table
 -- stays. All else is done properly

@@ -9,7 +9,7 @@ use Rattle.units.specs.Refusals as refusals
 use Rattle.histories.specs.Kinds as kinds
 use Rattle.histories.specs.Demands as demands
 use Rattle.rules.specs.Plain.{Plain, until, capacity, low}
-use Rattle.rules.specs.Calls.{Ask, book, offer, list, cancel, move_clock, show, Call, set_up_with, ask, done, refuse}
+use Rattle.rules.specs.Calls.{Ask, book, offer, list, cancel, move_clock, show, Call, set_up_with, ask, Refusal, done, refused}
 use Rattle.rules.specs.Choosing.{PathAt, RightChoice}
 use Rattle.rules.specs.Tables.{Tables, Fine, held, events_of}
 use Rattle.rules.specs.Desk.{bandwidth_desk, Keeps}
@@ -43,11 +43,11 @@ AsksStart (ask a) = asks_start a
 
 -- Demand 1 in its other words: a call that passes is refused only with 8, and only if it asks for a start.
 abbrev pub NotOtherwise : Desk → Type 0
-NotOtherwise desk = (links : List Link) (t : Tables) (c : Call) (k : ℕ) → Passes links t c → (desk links t c).answer ≡ refuse k → AsksStart c × (k ≡ refusals.no_start)
+NotOtherwise desk = (links : List Link) (t : Tables) (c : Call) (f : Refusal) → Passes links t c → (desk links t c).answer ≡ refused f → AsksStart c × (f.number ≡ refusals.no_start)
 
--- And whatever its number, a refusal leaves every table as it came.
+-- And whatever its number and its minute, a refusal leaves every table as it came.
 abbrev pub RefusalKeeps : Desk → Type 0
-RefusalKeeps desk = (links : List Link) (t : Tables) (c : Call) (k : ℕ) → (desk links t c).answer ≡ refuse k → (desk links t c).tables ≡ t
+RefusalKeeps desk = (links : List Link) (t : Tables) (c : Call) (f : Refusal) → (desk links t c).answer ≡ refused f → (desk links t c).tables ≡ t
 
 -- 'The same minute is accepted and changes nothing.'
 abbrev pub SameMinute : Desk → Type 0
@@ -67,7 +67,8 @@ EventsSuffice =
     (links : List Link) (p : Plain) (r : Request) (m : ℕ) (path : List ℕ) → low p r ≤ m → PathAt links p r m path
     → (e : ℕ) × (low p r ≤ e) × (e ≤ m) × ((e ≡ low p r) ⊎ Memᴰ e (events_of p)) × PathAt links p r e path
 
--- 2. A request that passes the other checks gets the earliest minute, fewest links, lower numbers; 'no start' if and only if there is none.
+-- 2. A request that passes the other checks gets the earliest minute, fewest links, lower numbers; 'no start' if and only if there is none, with the
+-- minute at which every path from low on breaks off.
 pub record Demand2 (desk : Desk) : Type 0 where
   pub booking : (links : List Link) (t : Tables) (n : ℕ) (r : Request) → Passes links t (ask (book n r)) → RightChoice links (held t) r (desk links t (ask (book n r))).answer
   pub offering : (links : List Link) (t : Tables) (r : Request) → Passes links t (ask (offer r)) → RightChoice links (held t) r (desk links t (ask (offer r))).answer

@@ -1,10 +1,10 @@
--- The examples of document 01 that are marked P, and those of document 02's Job 5, as one list of entries with a single claim over the
+-- The examples of document 01 that are marked P, and those of document 02's Jobs 5 and 6, as one list of entries with a single claim over the
 -- list, of any desk.
 use Rattle.std.specs.Prelude.{◌≡◌, List, [], ◌∷◌, ◌++◌, map, true, ℕ, zero, suc, ◌-◌, ◌≤◌, replicate}
 use Rattle.units.specs.declared.Link.{Link}
 use Rattle.units.specs.declared.Request.{Request}
 use Rattle.units.specs.Lists.{All}
-use Rattle.rules.specs.Calls.{Ask, book, offer, cancel, move_clock, show, set_up, ask, Answer, done, starts, shows, refuse}
+use Rattle.rules.specs.Calls.{Ask, book, offer, cancel, move_clock, show, set_up, ask, Answer, done, starts, shows, refuse, no_start_at}
 use Rattle.rules.specs.Tables.{Tables, sized}
 use Rattle.histories.specs.Histories.{answers}
 use Rattle.demands.specs.Demands.{Desk}
@@ -54,7 +54,7 @@ session = record {
   links = λ f. session_links;
   calls = λ f. book 7 (request 0 2 4 10 0 1000000000) ∷ book 9 (request 0 2 6 5 0 1000000000) ∷ book 3 (request 0 2 5 4 2 4) ∷ book 3 (request 0 2 5 4 2 5)
       ∷ cancel 9 ∷ offer (request 0 2 4 3 0 0) ∷ move_clock 10 ∷ cancel 7 ∷ [];
-  answered = λ f. start_at 0 (2 ∷ []) ∷ start_at 0 (0 ∷ 1 ∷ []) ∷ refuse 8 ∷ start_at 5 (0 ∷ 1 ∷ []) ∷ done ∷ start_at 0 (0 ∷ 1 ∷ []) ∷ done ∷ refuse 9 ∷ [];
+  answered = λ f. start_at 0 (2 ∷ []) ∷ start_at 0 (0 ∷ 1 ∷ []) ∷ no_start_at 2 ∷ start_at 5 (0 ∷ 1 ∷ []) ∷ done ∷ start_at 0 (0 ∷ 1 ∷ []) ∷ done ∷ refuse 9 ∷ [];
 }
 
 -- low is the only start and one link the only path: one more than the free figure is refused, the free figure accepted
@@ -65,7 +65,7 @@ free_figure = record {
   most = 999999;
   links = λ f. only f;
   calls = λ f. book 1 (request 0 2 (suc f) 1 0 0) ∷ book 1 (request 0 2 f 1 0 0) ∷ [];
-  answered = λ f. refuse 8 ∷ start_at 0 (0 ∷ []) ∷ [];
+  answered = λ f. no_start_at 0 ∷ start_at 0 (0 ∷ []) ∷ [];
 }
 
 -- the same where a booking has left that figure of 1,000,000
@@ -76,7 +76,7 @@ free_figure_left = record {
   most = 999999;
   links = λ f. only 1000000;
   calls = λ f. book 2 (request 0 2 (1000000 - f) 2 0 0) ∷ book 1 (request 0 2 (suc f) 1 1 1) ∷ book 1 (request 0 2 f 1 1 1) ∷ [];
-  answered = λ f. start_at 0 (0 ∷ []) ∷ refuse 8 ∷ start_at 1 (0 ∷ []) ∷ [];
+  answered = λ f. start_at 0 (0 ∷ []) ∷ no_start_at 1 ∷ start_at 1 (0 ∷ []) ∷ [];
 }
 
 abbrev pub before_low : Entry
@@ -132,8 +132,26 @@ last_figure guard = record {
   answered = λ f. shows 4 ∷ refuse 4 ∷ [];
 }
 
+-- two links from node 0 to node 2
+abbrev pub two_links : List Link
+two_links = record { from = 0; to = 2; capacity = record { 0 = 4 } } ∷ record { from = 0; to = 2; capacity = record { 0 = 4 } } ∷ []
+
+-- under guard 2 link 0 is sold full for minutes 10 to 12 and link 1 for 14 to 18, so that every path from minute 0 on breaks off at 14,
+-- though link 0 is free again then: inside the span of an offer of 20 minutes, in the guard's last minute of one of 13; one of 12 starts
+abbrev pub broken_off : Entry
+broken_off = record {
+  guard = 2;
+  least = 0;
+  most = 0;
+  links = λ f. two_links;
+  calls = λ f. book 1 (request 0 2 4 3 10 10) ∷ book 2 (request 0 2 4 3 14 14) ∷ cancel 1 ∷ book 1 (request 0 2 4 1 10 10)
+      ∷ offer (request 0 2 1 20 0 0) ∷ offer (request 0 2 1 13 0 0) ∷ offer (request 0 2 1 12 0 0) ∷ [];
+  answered = λ f. start_at 10 (0 ∷ []) ∷ start_at 14 (1 ∷ []) ∷ done ∷ start_at 10 (0 ∷ [])
+      ∷ no_start_at 14 ∷ no_start_at 14 ∷ start_at 0 (1 ∷ []) ∷ [];
+}
+
 abbrev pub entries : List Entry
-entries = session ∷ free_figure ∷ free_figure_left ∷ before_low ∷ full_book ∷ same_ends ∷ guarded ∷ last_figure 0 ∷ last_figure 15 ∷ []
+entries = session ∷ free_figure ∷ free_figure_left ∷ before_low ∷ full_book ∷ same_ends ∷ guarded ∷ last_figure 0 ∷ last_figure 15 ∷ broken_off ∷ []
 
 -- the single claim
 abbrev pub Examples : Desk → Type 0

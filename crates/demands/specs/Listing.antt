@@ -4,13 +4,12 @@ use mathlib.Core.List.{List, [], ◌∷◌, Memᴰ}
 use Rattle.units.specs.declared.Link.{Link}
 use Rattle.units.specs.declared.Request.{Request}
 use Rattle.units.specs.Limits.{most_ranges}
-use Rattle.units.specs.Refusals as refusals
 use Rattle.units.specs.Lists.{All}
 use Rattle.choice.specs.Choice.{Grant}
 use Rattle.listing.specs.Ranges.{Range}
 use Rattle.listing.specs.Right.{ranges_with, Apart}
 use Rattle.rules.specs.Plain.{Plain, low}
-use Rattle.rules.specs.Calls.{offer, list, ask, starts, lists, refuse}
+use Rattle.rules.specs.Calls.{offer, list, ask, starts, lists, no_start_at}
 use Rattle.rules.specs.Tables.{Tables, held, events_of}
 use Rattle.rules.specs.Choosing.{PathAt, InWindow}
 use Rattle.demands.specs.Demands.{Desk, Passes}
@@ -39,7 +38,7 @@ pub record EveryStart (desk : Desk) : Type 0 where
       → (rs : List Range) × ((desk links t (ask (list n r))).answer ≡ lists rs) × RightListing links (held t) r rs
   -- it is empty if and only if the offer is refused 8
   pub empty_iff : (links : List Link) (t : Tables) (n : ℕ) (r : Request) → Passes links t (ask (list n r))
-      → ((desk links t (ask (list n r))).answer ≡ lists []) ↔ ((desk links t (ask (offer r))).answer ≡ refuse refusals.no_start)
+      → ((desk links t (ask (list n r))).answer ≡ lists []) ↔ ((m : ℕ) × ((desk links t (ask (offer r))).answer ≡ no_start_at m))
   -- its first minute is the offer's start
   pub first_is : (links : List Link) (t : Tables) (n : ℕ) (r : Request) → Passes links t (ask (list n r)) → (x : Range) (rs : List Range)
       → (desk links t (ask (list n r))).answer ≡ lists (x ∷ rs) → (g : Grant) → (desk links t (ask (offer r))).answer ≡ starts g → x.first ≡ g.start

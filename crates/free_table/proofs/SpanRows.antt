@@ -1,12 +1,10 @@
--- The rows of a span, one by one: which of the table's they are, and whether a link has the bandwidth in each.
-use Rattle.std.proofs.Common.{◌≡◌, ℕ, zero, suc, ◌+◌, ◌-◌, ◌*◌, ◌≤◌, ◌<◌, Bool, true, false, ◌&&◌, List, ◌∷◌, leb, get_or, take, drop, refl, sym, ap, ap₂, ◌∙◌, zero-add, zero-mul, arith}
+-- The rows of a span, one by one: which of the table's they are, and each link's figure in them.
+use Rattle.std.proofs.Common.{◌≡◌, ℕ, zero, suc, ◌+◌, ◌-◌, ◌*◌, ◌≤◌, ◌<◌, List, [], ◌∷◌, length, get_or, take, drop, refl, ap, ap₂, ◌∙◌, zero-add, zero-mul, arith}
 use Rattle.std.proofs.Math.Seq.{get_or-take, get_or-drop, drop-drop}
-use Rattle.std.specs.List.{list_all}
 use Rattle.std.specs.Simd.{first_chunks}
 use Rattle.units.specs.Limits.{most_links}
-use Rattle.units.specs.Search.{all_from}
 use Rattle.timeline.specs.Events.{row_at}
-use Rattle.free_table.specs.Looking.{span_rows, enough_rows, enough_span}
+use Rattle.free_table.specs.Looking.{span_rows}
 
 chunks_from : (size i k : ℕ) (t : List ℕ) → drop i (first_chunks size (i + k) t) ≡ first_chunks size k (drop (i * size) t)
 chunks_from size zero k t = rw (zero-add, zero-mul) refl
@@ -40,39 +38,29 @@ rows_are es start end t rows order inside =
     all : rows ≡ first + (rows - first)
     all = omega arith
 
-and_then : (b r : Bool) → ◌≡◌ {A = Bool} (b && r) (elim b as (λ x. Bool) [ true ↦ r | false ↦ false ])
-and_then true r = refl
-and_then false r = refl
+length_chunks : (size n : ℕ) (t : List ℕ) → length (first_chunks size n t) ≡ n
+length_chunks size zero t = refl
+length_chunks size (suc n) t = ap suc (length_chunks size n (drop size t))
 
-all_shifted : (p q : ℕ → Bool) (i n : ℕ) → ((k : ℕ) → p (suc k) ≡ q k) → all_from (suc i) n p ≡ all_from i n q
-unfolding all_from
-all_shifted p q i zero h = refl
-all_shifted p q i (suc n) h = ap₂ (λ t r. elim t as (λ x. Bool) [ true ↦ r | false ↦ false ]) (h i) (all_shifted p q (suc i) n h)
+-- the number of rows that a span has
+pub span_rows_length : (es : List ℕ) (start end : ℕ) (t : List ℕ) → length (span_rows es start end t) ≡ suc (row_at es (end - 1) - row_at es start)
+unfolding span_rows
+span_rows_length es start end t = length_chunks most_links (suc (row_at es (end - 1) - row_at es start)) (drop (row_at es start * most_links) t)
 
-module _ (l bandwidth : ℕ) where
-  -- whether the link has the bandwidth in the row
-  abbrev pub enough_in : List ℕ → Bool
-  enough_in row = leb bandwidth (get_or row l 0)
+-- a row among so many
+chunk_at : (size n i : ℕ) (t : List ℕ) → i < n → get_or (first_chunks size n t) i [] ≡ take size (drop (i * size) t)
+chunk_at size zero i t h = absurd (omega arith)
+chunk_at size (suc n) zero t h = rw zero-mul refl
+chunk_at size (suc n) (suc i) t h = chunk_at size n i (drop size t) (omega arith) ∙ ap (take size) (drop-drop (i * size) size t ∙ ap (λ k. drop k t) (omega arith))
 
-  pub enough_chunks : (n : ℕ) (t : List ℕ) → l < most_links → list_all enough_in (first_chunks most_links n t) ≡ enough_rows n l bandwidth t
-  unfolding enough_rows all_from
-  enough_chunks zero t h = refl
-  enough_chunks (suc n) t h = ap₂ ◌&&◌ first (enough_chunks n (drop most_links t) h ∙ sym (all_shifted test _ 0 n behind)) ∙ and_then (test 0) (all_from 1 n test)
-    where
-      test : ℕ → Bool
-      test i = leb bandwidth (get_or t (i * most_links + l) 0)
+module _ (es : List ℕ) (start end : ℕ) (t : List ℕ) where
+  -- link l's figure in a row of the span
+  pub span_figure : (row l : ℕ) → row < length (span_rows es start end t) → l < most_links
+      → get_or (get_or (span_rows es start end t) row []) l 0 ≡ get_or (drop (row_at es start * most_links) t) (row * most_links + l) 0
+  unfolding span_rows
+  span_figure row l h k =
+      let inside : row < suc (row_at es (end - 1) - row_at es start) = omega (arith, span_rows_length es start end t) in
+      ap (λ (r : List ℕ). get_or r l 0) (chunk_at most_links (suc (row_at es (end - 1) - row_at es start)) row (drop (row_at es start * most_links) t) inside)
+      ∙ get_or-take most_links (drop (row * most_links) (drop (row_at es start * most_links) t)) l 0 k
+      ∙ get_or-drop (row * most_links) (drop (row_at es start * most_links) t) l 0
 
-      first : enough_in (take most_links t) ≡ leb bandwidth (get_or t (0 * most_links + l) 0)
-      first =
-          let e : l ≡ 0 * most_links + l = omega arith in
-          ap (leb bandwidth) (get_or-take most_links t l 0 h ∙ ap (λ i. get_or t i 0) e)
-
-      behind : (k : ℕ) → leb bandwidth (get_or t (suc k * most_links + l) 0) ≡ leb bandwidth (get_or (drop most_links t) (k * most_links + l) 0)
-      behind k =
-          let e : suc k * most_links + l ≡ most_links + (k * most_links + l) = omega arith in
-          ap (leb bandwidth) (ap (λ i. get_or t i 0) e ∙ sym (get_or-drop most_links t (k * most_links + l) 0))
-
-  -- so it has it throughout the span
-  pub enough_in_span : (es : List ℕ) (start end : ℕ) (t : List ℕ) → l < most_links → list_all enough_in (span_rows es start end t) ≡ enough_span es start end l bandwidth t
-  unfolding span_rows enough_span
-  enough_in_span es start end t h = enough_chunks _ _ h

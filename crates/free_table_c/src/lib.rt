@@ -6,9 +6,10 @@ ghost use Rattle.units.specs.Limits.{most_links};
 ghost use Rattle.timeline.specs.Events.{row_at};
 ghost use Rattle.free_table.specs.Figures.{kept, all_free, Capacities};
 ghost use Rattle.free_table.specs.Taking.{less_span, Sized};
-ghost use Rattle.free_table.specs.Looking.{enough_span};
+ghost use Rattle.units.specs.Search.{found_or};
+ghost use Rattle.free_table.specs.Looking.{first_missing};
 
-use free_table::{FreeTable, Interval};
+use free_table::{FreeTable, Interval, Missing};
 use units::{Bandwidth, LinkNumber, Minute};
 
 // The free table of a desk without bookings.
@@ -56,22 +57,25 @@ pub extern "C" fn take_bandwidth(
     free_table::take_bandwidth(events, free, start, end, link, bandwidth)
 }
 
-// Whether one link has the bandwidth free in every minute from start to end - 1.
+// The first minute from start to end - 1 at which one link has less than the bandwidth free; `end` where there is none.
 #[unsafe(no_mangle)]
-pub extern "C" fn has_bandwidth(
+pub extern "C" fn first_missing(
     events: &[u32],
     free: &[u32],
     start: Minute,
     end: Minute,
     link: LinkNumber,
     bandwidth: Bandwidth,
-) -> bool
+) -> Minute
     requires { Sized events.now free.now link.0 × (start.0 < end.0) }
-    ensures { result ≡ enough_span events.now start.0 end.0 link.0 bandwidth.0 free.now }
+    ensures { result.0 ≡ found_or end.0 (first_missing events.now start.0 end.0 link.0 bandwidth.0 free.now) }
 {
     let table = FreeTable {
         events,
         figures: free,
     };
-    table.has_bandwidth(Interval { start, end }, link, bandwidth)
+    match table.first_missing(Interval { start, end }, link, bandwidth) {
+        Missing::At(minute) => minute,
+        Missing::Nowhere => end,
+    }
 }

@@ -1,7 +1,6 @@
 -- Every start there is: the ranges of the possible minutes of a window, tried at every minute. It knows nothing of bookings.
-use Rattle.std.specs.Prelude.{List, [], ◌∷◌, Bool, true, false, Option, Some, None, Result, Ok, Err, ℕ, zero, suc, ◌-◌, eqb}
+use Rattle.std.specs.Prelude.{List, [], ◌∷◌, Bool, true, false, Option, Some, None, ℕ, zero, suc, ◌-◌, eqb}
 use Rattle.units.specs.declared.Minute.{Minute}
-use Rattle.units.specs.declared.Refusal.{Refusal}
 use Rattle.units.specs.Limits.{list_size}
 use Rattle.units.specs.Lists.{padded}
 use Rattle.path_search.specs.Paths.{Graph}
@@ -57,6 +56,6 @@ start_of (granted g) = Some (record { 0 = g.start })
 start_of no_start = None
 
 -- the same of the answer that tells it
-abbrev pub start_granted : Result Granted Refusal → Option Minute
-start_granted (Ok given) = Some given.start
-start_granted (Err refusal) = None
+abbrev pub start_granted : Option Granted → Option Minute
+start_granted (Some given) = Some given.start
+start_granted None = None

@@ -10,13 +10,13 @@ ghost use Rattle.listing.specs.Ranges.{ranges_of, list_table, start_of, start_gr
 ghost use Rattle.listing.specs.Right.{RunEnd};
 
 use choice::{Asked, Granted};
-use units::{Minute, Refusal, end_minute};
+use units::{Minute, end_minute};
 
-// The start of a choice, where one is granted.
-fn start_granted(choice: Result<Granted, Refusal>) -> Option<Minute>
-    ensures { result ≡ start_granted choice }
+// The start that was found, where one was.
+fn start_granted(found: Option<Granted>) -> Option<Minute>
+    ensures { result ≡ start_granted found }
 {
-    Some(choice.ok()?.start)
+    Some(found?.start)
 }
 
 // The first possible minute from one on that is not possible, or past the window; that minute is not tried again.
@@ -28,7 +28,7 @@ fn next_start(asked: &Asked, end: Minute, latest: Minute) -> Option<Minute>
     if latest < end {
         return None;
     }
-    start_granted(asked.choose_event(end, latest))
+    start_granted(asked.first_event(end, latest))
 }
 
 // Where the possible minutes from a possible start on end: at the first minute that is not, or after latest. A span that
@@ -66,7 +66,7 @@ pub fn list_ranges(asked: &Asked, low: Minute, latest: Minute, list: &mut [u32])
     ensures written { list.new ≡ list_table (ranges_of asked.now low.0 latest.0) }
 {
     let mut count: u32 = 0;
-    let mut next = start_granted(asked.choose(low, latest));
+    let mut next = start_granted(asked.first_start(low, latest));
     while let Some(start) = next {
         let end = run_end(asked, start, latest);
         let place = count as usize * 2;

@@ -2,7 +2,8 @@
 use Rattle.std.specs.Prelude.{List, [], ℕ, eqb, take, Result, Ok, Err}
 use Rattle.units.specs.declared.Link.{Link}
 use Rattle.units.specs.declared.Refusal.{Refusal}
-use Rattle.units.specs.Refusals.{number}
+use Rattle.units.specs.declared.Refused.{Refused}
+use Rattle.units.specs.Refusals.{number, no_start, without_minute}
 use Rattle.path_search.specs.declared.Path.{Path}
 use Rattle.path_search.specs.Answer.{path_of}
 use Rattle.layout.specs.declared.Order.{Order}
@@ -36,9 +37,13 @@ accepted (orders.Cancel number) v = reports.Cancelled number
 accepted (orders.Clock minute) v = reports.Clock minute
 accepted (orders.Offer w) v = reports.Offered (record { 0 = v.start })
 
--- 'a refused order prints `refused N`'; 0 is the number of an accepted call
+-- 'a refused order prints `refused N`', and 8 its minute; 'other refusals .. print no `at`'
+abbrev pub refused : ℕ → ℕ → Report
+refused k m = if_passed (eqb k no_start) (reports.RefusedAt k (record { 0 = m })) (reports.Refused k)
+
+-- 0 is the number of an accepted call
 abbrev pub reported : Order → Values → Report
-reported order v = if_passed (eqb v.number 0) (accepted order v) (reports.Refused v.number)
+reported order v = if_passed (eqb v.number 0) (accepted order v) (refused v.number v.at)
 
 -- the path of a booking or an offer; no other line shows one
 abbrev pub path_shown : Order → Values → Path
@@ -54,19 +59,19 @@ answered_by order o = record { answer = record { report = reported order (values
 unfoldable pub answered : List Link → Tables → Order → Ordered
 answered links t order = answered_by order (outcome links t (call_of order))
 
+-- the answer of an order, refused or not
+abbrev pub told : Result Answered Refused → Answered
+told (Ok answer) = answer
+told (Err why) = record { report = refused (number why.refusal) why.at.0; path = path_of [] }
+
 -- 'reading a record': an order that cannot be read is refused and changes nothing
 abbrev pub by_reading : List Link → Tables → Result Order Refusal → Ordered
 by_reading links t (Ok order) = answered links t order
-by_reading links t (Err refusal) = record { answer = record { report = reports.Refused (number refusal); path = path_of [] }; tables = t }
+by_reading links t (Err refusal) = record { answer = told (Err (without_minute refusal)); tables = t }
 
 -- what any bytes are answered as an order
 unfoldable pub ordered : List Link → Tables → List ℕ → Ordered
 ordered links t bytes = by_reading links t (order_read bytes)
-
--- the answer of an order that was read, refused or not
-abbrev pub told : Result Answered Refusal → Answered
-told (Ok answer) = answer
-told (Err refusal) = record { report = reports.Refused (number refusal); path = path_of [] }
 
 -- document 01's line of an order at its place: the path's links in travel order
 abbrev pub line_of : ℕ → Ordered → List ℕ

@@ -16,7 +16,7 @@ use path_search::{Path, no_path};
 use reading::read_order;
 use report::{Report, write_line};
 use sound_calls::{cancel, make_booking, move_clock, offer};
-use units::{Refusal, Request};
+use units::{Refusal, Refused, Request};
 
 // The answer to an order: what its line says, and the path beside it.
 #[derive(Clone, Copy)]
@@ -26,12 +26,17 @@ pub struct Answered {
 }
 
 // What a refused order is answered.
-impl From<Refusal> for Answered {
-    ghost from_gives = { λ refusal answered. answered ≡ told (Err refusal) };
+impl From<Refused> for Answered {
+    ghost from_gives = { λ refused answered. answered ≡ told (Err refused) };
 
-    fn from(refusal: Refusal) -> Answered {
+    fn from(refused: Refused) -> Answered {
+        let number = u32::from(refused.refusal);
+        let report = match refused.refusal {
+            Refusal::NoStart => Report::RefusedAt(number, refused.at),
+            _ => Report::Refused(number),
+        };
         Answered {
-            report: Report::Refused(u32::from(refusal)),
+            report,
             path: no_path(),
         }
     }
@@ -39,7 +44,7 @@ impl From<Refusal> for Answered {
 
 // What the order that the bytes hold is answered, or why it is refused: 12 and 11 where they cannot be read.
 #[tactic(auto, unfolding(crate::specs::Ordered::ordered, crate::specs::Ordered::answered, sound_calls::specs::Lent::tables_after, sound_calls::specs::Lent::refusal_answer, sound_calls::specs::Lent::choice_answer, histories::specs::Kinds::outcome))]
-fn carry_out(bytes: &[u8], desk: &mut Desk<'_>) -> Result<Answered, Refusal>
+fn carry_out(bytes: &[u8], desk: &mut Desk<'_>) -> Result<Answered, Refused>
     requires fine { Fine desk.old.links.now (tables_of desk.old) }
     ensures loans { SameLoans desk.old desk.new }
     ensures answer { told result ≡ (ordered desk.old.links.now (tables_of desk.old) bytes.now).answer }

@@ -13,7 +13,7 @@ ghost use Rattle.rebuild.specs.Rebuilding.{place_path, release_of, less_path, en
 mod right;
 
 use book::booking_at;
-use free_table::{FreeTable, Interval, reset_free, take_bandwidth};
+use free_table::{FreeTable, Interval, Missing, reset_free, take_bandwidth};
 pub use right::RightBooking;
 use timeline::{insert_span, reset_events};
 use units::{Head, Link, LinkNumber, Minute, ROW, column, release};
@@ -25,7 +25,10 @@ fn path_fits(table: FreeTable<'_>, b: RightBooking, minutes: Interval) -> bool
     let b = b.booking;
     let path = &b.links[..b.count as usize];
     let bandwidth = b.bandwidth;
-    path.iter().all(|&link| table.has_bandwidth(minutes, LinkNumber(link), bandwidth))
+    path.iter().all(|&link| {
+        let missing = table.first_missing(minutes, LinkNumber(link), bandwidth);
+        matches!(missing, Missing::Nowhere)
+    })
 }
 
 // Takes a booking's bandwidth from every link of its path in every minute of an interval.

@@ -4,7 +4,7 @@ use Rattle.std.specs.List.{flat_map}
 use Rattle.units.specs.Limits.{most_hops}
 use Rattle.units.specs.declared.Minute.{Minute}
 use Rattle.report.specs.declared.Report.{Report}
-use Rattle.report.specs.declared.Report.TheVariants.{DeskLinks, DeskRefused, Booked, Offered, Cancelled, Clock, Refused}
+use Rattle.report.specs.declared.Report.TheVariants.{DeskLinks, DeskRefused, Booked, Offered, Cancelled, Clock, Refused, RefusedAt}
 use Rattle.report.specs.Decimal.{decimal}
 
 -- link numbers in travel order, a space before each
@@ -24,6 +24,7 @@ answer place (Offered start) links = decimal place ++ (codes " offer" ++ route s
 answer place (Cancelled number) links = decimal place ++ (codes " cancelled " ++ decimal number)
 answer place (Clock minute) links = decimal place ++ (codes " clock " ++ decimal minute.0)
 answer place (Refused refusal) links = decimal place ++ (codes " refused " ++ decimal refusal)
+answer place (RefusedAt refusal minute) links = decimal place ++ (codes " refused " ++ (decimal refusal ++ (codes " at " ++ decimal minute.0)))
 
 -- document 01's line
 unfoldable pub line : ℕ → Report → List ℕ → List ℕ

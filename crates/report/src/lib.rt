@@ -26,6 +26,7 @@ pub enum Report {
     Cancelled(u32),
     Clock(Minute),
     Refused(u32),
+    RefusedAt(u32, Minute),
 }
 
 // A line that is being written into a lent buffer, from index `at` on.
@@ -117,6 +118,10 @@ impl LineWriter<'_> {
             Report::Cancelled(number) => self.write_placed(place, b" cancelled ", number),
             Report::Clock(minute) => self.write_placed(place, b" clock ", minute.0),
             Report::Refused(refusal) => self.write_placed(place, b" refused ", refusal),
+            Report::RefusedAt(refusal, minute) => {
+                self.write_placed(place, b" refused ", refusal);
+                self.write_field(b" at ", minute.0);
+            }
         }
     }
 }

@@ -10,7 +10,7 @@ ghost use Rattle.report.specs.Written.{Wrote};
 use report::{Report, has_room, write_line};
 use units::Minute;
 
-// The kinds of a line for a program in another language; any other number is a refused order.
+// The kinds of a line for a program in another language; any other number is a refused order with no minute beside it.
 const DESK_LINKS: u32 = 0;
 
 const DESK_REFUSED: u32 = 1;
@@ -22,6 +22,8 @@ const OFFERED: u32 = 3;
 const CANCELLED: u32 = 4;
 
 const CLOCK: u32 = 5;
+
+const REFUSED_AT: u32 = 7;
 
 // The report of a kind with its figure and its minute; the figure is a count, a booking number or a refusal number.
 #[tactic(auto, unfolding(report::specs::Kinds::report_of))]
@@ -35,6 +37,7 @@ fn report_of(kind: u32, figure: u32, minute: Minute) -> Report
         OFFERED => Report::Offered(minute),
         CANCELLED => Report::Cancelled(figure),
         CLOCK => Report::Clock(minute),
+        REFUSED_AT => Report::RefusedAt(figure, minute),
         _ => Report::Refused(figure),
     }
 }

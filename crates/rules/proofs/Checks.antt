@@ -17,17 +17,17 @@ use Rattle.rules.specs.Plain.{Plain, low}
 use Rattle.rules.specs.Calls.{book, set_up, stands, number_ok, request_ok, own_checks, first_refusal, Answer, done, starts, lists, shows, refused, refuse, Check, checked}
 use Rattle.rules.specs.Tables.{Tables, sized, table_checks}
 
-pub done≢refuse : {X : Type 0} {k : ℕ} → done ≡ refuse k → X
-done≢refuse e = let z : ◌≡◌ {A = ℕ} 0 1 = cc in absurd (omega arith)
+pub done≢refused : {X : Type 0} {k : ℕ} → done ≡ refuse k → X
+done≢refused e = let z : ◌≡◌ {A = ℕ} 0 1 = cc in absurd (omega arith)
 
-pub starts≢refuse : {X : Type 0} {g : Grant} {k : ℕ} → starts g ≡ refuse k → X
-starts≢refuse e = let z : ◌≡◌ {A = ℕ} 0 1 = cc in absurd (omega arith)
+pub starts≢refused : {X : Type 0} {g : Grant} {k : ℕ} → starts g ≡ refuse k → X
+starts≢refused e = let z : ◌≡◌ {A = ℕ} 0 1 = cc in absurd (omega arith)
 
-pub lists≢refuse : {X : Type 0} {rs : List Range} {k : ℕ} → lists rs ≡ refuse k → X
-lists≢refuse e = let z : ◌≡◌ {A = ℕ} 0 1 = cc in absurd (omega arith)
+pub lists≢refused : {X : Type 0} {rs : List Range} {k : ℕ} → lists rs ≡ refuse k → X
+lists≢refused e = let z : ◌≡◌ {A = ℕ} 0 1 = cc in absurd (omega arith)
 
-pub shows≢refuse : {X : Type 0} {x k : ℕ} → shows x ≡ refuse k → X
-shows≢refuse e = let z : ◌≡◌ {A = ℕ} 0 1 = cc in absurd (omega arith)
+pub shows≢refused : {X : Type 0} {x k : ℕ} → shows x ≡ refuse k → X
+shows≢refused e = let z : ◌≡◌ {A = ℕ} 0 1 = cc in absurd (omega arith)
 
 abbrev number_of : Answer → ℕ
 number_of done = 0
@@ -40,7 +40,7 @@ pub refuse_same : {j k : ℕ} → refuse j ≡ refuse k → j ≡ k
 refuse_same e = ap number_of e
 
 pub passed_done : (cs : List Check) → checked refuse cs done ≡ done → Passed cs
-passed_done = laws.passed_done refuse done (λ k e. done≢refuse e)
+passed_done = laws.passed_done refuse done (λ k e. done≢refused e)
 
 -- document 01's 'a standing number on a full book is refused 6, before 7': a number that stands decides, whatever the book's room
 pub six_before_seven : (links : List Link) (p : Plain) (n : ℕ) (r : Request) → (number_ok n && request_ok r) ≡ true → leb (low p r) r.latest.0 ≡ true → stands n p.bookings ≡ true

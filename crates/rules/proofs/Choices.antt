@@ -23,17 +23,17 @@ use Rattle.rules.specs.Plain.{Plain, span, terms, graph, free_for, carries, low}
 use Rattle.rules.specs.Calls.{Answer, starts, refuse, chosen, best}
 use Rattle.rules.specs.Sound.{LinkRight}
 use Rattle.rules.specs.Choosing.{Carries, PathAt, IsChoice, RightChoice}
-use Rattle.rules.proofs.Checks.{starts≢refuse}
+use Rattle.rules.proofs.Checks.{starts≢refused}
 use Rattle.rules.proofs.Tests.{nodes_below, RequestRight}
 
 -- what was chosen, by the answer
 pub chosen_none : (c : Choice Grant) {k : ℕ} → chosen c ≡ refuse k → c ≡ no_start
-chosen_none (granted g) e = starts≢refuse e
+chosen_none (granted g) e = starts≢refused e
 chosen_none no_start e = refl
 
 pub chosen_granted : (c : Choice Grant) (g : Grant) → chosen c ≡ starts g → c ≡ granted g
 chosen_granted (granted h) g e = let q : h ≡ g = cc in ap granted q
-chosen_granted no_start g e = starts≢refuse (sym e)
+chosen_granted no_start g e = starts≢refused (sym e)
 
 -- the choice by any figures, span and low
 abbrev pub choice_by : List Link → Request → (ℕ → ℕ → ℕ) → ℕ → ℕ → Choice Grant
@@ -93,11 +93,11 @@ module _ (links : List Link) (p : Plain) (r : Request) where
     chosen_right : (c : Choice Grant) → ((g : Grant) → (c ≡ granted g) ↔ Granted g) → ((c ≡ no_start) ↔ NoneGranted) → RightChoice links p r (chosen c)
     chosen_right (granted x) s n = record {
       start_iff = λ g. ((λ e. let q : x ≡ g = cc in grant_choice g ((s g).0 (ap granted q))), λ i. let e = (s g).1 (choice_grant g i) in let q : x ≡ g = cc in ap starts q);
-      no_start_iff = (starts≢refuse, λ h. absurd (let w = grant_choice x ((s x).0 refl) in h x.start x.path w.in_window w.works));
+      no_start_iff = (starts≢refused, λ h. absurd (let w = grant_choice x ((s x).0 refl) in h x.start x.path w.in_window w.works));
       either = inl (x, refl);
     }
     chosen_right no_start s n = record {
-      start_iff = λ g. ((λ e. starts≢refuse (sym e)), λ i. absurd (n.0 refl g.start g.path i.in_window.0 i.in_window.1 (path_way g.start g.path i.works)));
+      start_iff = λ g. ((λ e. starts≢refused (sym e)), λ i. absurd (n.0 refl g.start g.path i.in_window.0 i.in_window.1 (path_way g.start g.path i.works)));
       no_start_iff = ((λ e m path w c. n.0 refl m path w.0 w.1 (path_way m path c)), λ h. refl);
       either = inr refl;
     }

@@ -29,7 +29,7 @@ use Rattle.rules.specs.Sound.{LinkRight, BookingRight, Obeys}
 use Rattle.rules.specs.Choosing.{Carries}
 use Rattle.rules.proofs.Uses.{uses_most, taken_put_in, taken_permuted, taken_part}
 use Rattle.rules.proofs.Book.{by_number_is}
-use Rattle.rules.proofs.Checks.{done≢refuse, Passed, checked_elim, passed_all}
+use Rattle.rules.proofs.Checks.{done≢refused, Passed, checked_elim, passed_all}
 use Rattle.rules.proofs.Exits.{set_up_answer}
 use Rattle.rules.proofs.Tests.{links_tell, sized_tells, RequestRight, request_right}
 use Rattle.rules.proofs.Choices.{choice_by, GoodGrant, best_elim}
@@ -47,7 +47,7 @@ module _ (links : List Link) (t : Tables) (guard : ℕ) where
   pub set_up_passed : (outcome links t (set_up guard)).answer ≡ done → Within 1 most_links (length links) × (guard ≤ most_guard) × All LinkRight links
   unfolding kinds.outcome kinds.answer_on
   set_up_passed e =
-      let h = passed_all refuse (table_checks links t (set_up guard)) (answer_with links (held t) (set_up guard)) (λ k f. done≢refuse (sym e ∙ f)) in
+      let h = passed_all refuse (table_checks links t (set_up guard)) (answer_with links (held t) (set_up guard)) (λ k f. done≢refused (sym e ∙ f)) in
       (((sized_tells links t).0 h.0).links_right, (at_most guard most_guard).0 h.1.0, (links_tell links).0 h.1.1.0)
 
   pub set_up_leaves : (outcome links t (set_up guard)).answer ≡ done → (outcome links t (set_up guard)).tables ≡ tables links (empty guard)

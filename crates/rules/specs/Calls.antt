@@ -6,6 +6,7 @@ use Rattle.units.specs.Limits.{last_node, most_hops, most_bookings, last_number,
 use Rattle.units.specs.Refusals as refusals
 use Rattle.units.specs.Lists.{within, padded}
 use Rattle.choice.specs.Choice.{Grant, Choice, granted, no_start, choose}
+use Rattle.choice.specs.BreakOff.{break_off}
 use Rattle.listing.specs.Ranges.{Range, ranges}
 use Rattle.plain_book.specs.Bookings as bookings
 use Rattle.plain_book.specs.Bookings.{without, standing_at}
@@ -13,7 +14,7 @@ pub use Rattle.histories.specs.Checks.{Check, check, first_refusal}
 unfoldable pub use Rattle.histories.specs.Checks.{checked}
 use Rattle.histories.specs.Kinds as kinds
 pub use Rattle.histories.specs.Kinds.{set_up_with, ask}
-use Rattle.rules.specs.Plain.{Booking, Plain, empty, with_book, terms, until, graph, free, carries, low}
+use Rattle.rules.specs.Plain.{Booking, Plain, empty, with_book, terms, span, until, graph, free, carries_in, carries, low}
 
 -- the calls on a desk that is set up; a listing is asked with the size of the list that it is lent
 pub data Ask : Type 0 where
@@ -31,8 +32,10 @@ Call = kinds.Call ℕ Ask
 abbrev pub set_up : ℕ → Call
 set_up guard = set_up_with guard
 
+-- a refusal number, with document 02's minute beside it
 pub record Refusal : Type 0 where
   pub number : ℕ
+  pub at : ℕ
 
 pub data Answer : Type 0 where
   done : Answer
@@ -41,10 +44,15 @@ pub data Answer : Type 0 where
   shows : ℕ → Answer
   refused : Refusal → Answer
 
+-- 'other refusals bring 0'
 abbrev pub refuse : ℕ → Answer
-refuse k = refused (record { number = k })
+refuse k = refused (record { number = k; at = 0 })
 
--- document 01's number and values for each case of an answer; 0 is the number of an accepted call
+-- 'refusal 8 then brings a minute'
+abbrev pub no_start_at : ℕ → Answer
+no_start_at m = refused (record { number = refusals.no_start; at = m })
+
+-- document 01's number and values for each case of an answer, and document 02's minute; 0 is the number of an accepted call
 pub record Values : Type 0 where
   pub number : ℕ
   pub start : ℕ
@@ -52,13 +60,14 @@ pub record Values : Type 0 where
   pub path : List ℕ
   pub ranges : ℕ
   pub figure : ℕ
+  pub at : ℕ
 
 abbrev pub values : Answer → Values
-values done = record { number = 0; start = 0; count = 0; path = padded most_hops []; ranges = 0; figure = 0 }
-values (starts g) = record { number = 0; start = g.start; count = length g.path; path = padded most_hops g.path; ranges = 0; figure = 0 }
-values (lists rs) = record { number = 0; start = 0; count = 0; path = padded most_hops []; ranges = length rs; figure = 0 }
-values (shows x) = record { number = 0; start = 0; count = 0; path = padded most_hops []; ranges = 0; figure = x }
-values (refused r) = record { number = r.number; start = 0; count = 0; path = padded most_hops []; ranges = 0; figure = 0 }
+values done = record { number = 0; start = 0; count = 0; path = padded most_hops []; ranges = 0; figure = 0; at = 0 }
+values (starts g) = record { number = 0; start = g.start; count = length g.path; path = padded most_hops g.path; ranges = 0; figure = 0; at = 0 }
+values (lists rs) = record { number = 0; start = 0; count = 0; path = padded most_hops []; ranges = length rs; figure = 0; at = 0 }
+values (shows x) = record { number = 0; start = 0; count = 0; path = padded most_hops []; ranges = 0; figure = x; at = 0 }
+values (refused r) = record { number = r.number; start = 0; count = 0; path = padded most_hops []; ranges = 0; figure = 0; at = r.at }
 
 abbrev pub numbers : List Booking → List ℕ
 numbers = bookings.numbers (λ b. b.number)
@@ -107,13 +116,18 @@ own_checks links p (cancel n) = check refusals.bad_field (number_ok n) ∷ check
 own_checks links p (move_clock m) = check refusals.bad_field (leb m last_minute) ∷ check refusals.clock_back (leb p.clock m) ∷ []
 own_checks links p (show l m) = check refusals.bad_field (ltb l (length links) && within p.clock last_shown m) ∷ []
 
-abbrev pub chosen : Choice Grant → Answer
-chosen (granted g) = starts g
-chosen no_start = refuse refusals.no_start
+-- document 02's 'first minute m, from low on, such that no single path has the bandwidth free throughout low to m'
+unfoldable pub breaks_off : List Link → Plain → Request → ℕ
+breaks_off links p r = break_off (graph links) (carries_in links p r) r.from r.to (span p (terms r)) (low p r)
+
+-- a choice as it is answered, by the minute at which every path from low on breaks off
+abbrev pub chosen : ℕ → Choice Grant → Answer
+chosen m (granted g) = starts g
+chosen m no_start = no_start_at m
 
 -- the earliest start of the request's window, with its path
 unfoldable pub best : List Link → Plain → Request → Answer
-best links p r = chosen (choose (graph links) (carries links p r) r.from r.to (low p r) r.latest.0)
+best links p r = chosen (breaks_off links p r) (choose (graph links) (carries links p r) r.from r.to (low p r) r.latest.0)
 
 -- every start of the request's window, as ranges
 unfoldable pub every : List Link → Plain → Request → List Range
@@ -128,9 +142,9 @@ result links p (cancel n) = done
 result links p (move_clock m) = done
 result links p (show l m) = shows (free links p l m)
 
--- a start, or 'no start'
+-- a start, or 'no start' with its minute
 abbrev pub StartOr8 : Answer → Type 0
-StartOr8 a = ((g : Grant) × (a ≡ starts g)) ⊎ (a ≡ refuse refusals.no_start)
+StartOr8 a = ((g : Grant) × (a ≡ starts g)) ⊎ ((m : ℕ) × (a ≡ no_start_at m))
 
 -- the form in which a call that passes its checks is answered; only one that asks for a start may be refused then, with 8
 abbrev pub InForm : Ask → Answer → Type 0

@@ -82,9 +82,13 @@ free links p l m = capacity links l - taken p l m
 abbrev pub free_for : List Link → Plain → Request → ℕ → ℕ → ℕ
 free_for links p r l m = free links p l m
 
--- link l has the bandwidth free in every minute of the span that starts at m
+-- link l has the bandwidth free in each of the n minutes from m on
+abbrev pub carries_in : List Link → Plain → Request → ℕ → ℕ → ℕ → Bool
+carries_in links p r n m l = throughout (free_for links p r) r.bandwidth.0 n m l
+
+-- and in every minute of the span that starts at m
 abbrev pub carries : List Link → Plain → Request → ℕ → ℕ → Bool
-carries links p r m l = throughout (free_for links p r) r.bandwidth.0 (span p (terms r)) m l
+carries links p r = carries_in links p r (span p (terms r))
 
 -- document 01's low: the start of the request's window
 abbrev pub low : Plain → Request → ℕ

@@ -29,7 +29,7 @@ use Rattle.histories.proofs.Checks.{Verdict, lets, stops, verdict}
 use Rattle.rules.specs.Plain.{Booking, Plain, terms, graph, carries, low}
 use Rattle.rules.specs.Calls.{book, cancel, ask, done, starts, refuse, checked, own_checks, number_ok, request_ok, stands, chosen, best, put_in, next}
 use Rattle.rules.specs.Desk.{answer as plain_answer}
-use Rattle.rules.proofs.Checks.{starts≢refuse, passed_answer, passed_all}
+use Rattle.rules.proofs.Checks.{starts≢refused, passed_answer, passed_all}
 use Rattle.opening.specs.Opened.{first_size, opened}
 use Rattle.orders.specs.Ordered.{line_of}
 use Rattle.session.specs.Session.{Running, answered, behind, lines, orders, blank, started, session}
@@ -61,7 +61,7 @@ module _ (links : List Link) (p : Plain) where
   booked n r = by (verdict refuse (best links p r) (own_checks links p (book n r)) (lit≤ tt, (lit≤ tt, (lit≤ tt, (lit≤ tt, tt)))))
     where
       chosen_by : (c : Choice Grant) → checked refuse (own_checks links p (book n r)) (chosen c) ≡ chosen c → plain_answer links p (book n r) ≡ checked refuse (own_checks links p (book n r)) (chosen c) → Booked n r
-      chosen_by (granted g) e q = gets g (q ∙ e) ((and-eq-true_iff (number_ok n) (request_ok r)).0 (passed_all refuse (own_checks links p (book n r)) (starts g) (λ k h. starts≢refuse (sym e ∙ h))).0).0
+      chosen_by (granted g) e q = gets g (q ∙ e) ((and-eq-true_iff (number_ok n) (request_ok r)).0 (passed_all refuse (own_checks links p (book n r)) (starts g) (λ k h. starts≢refused (sym e ∙ h))).0).0
       chosen_by no_start e q = refuses refusals.no_start (lit≤ tt) (q ∙ e)
 
       by : Verdict refuse (best links p r) (own_checks links p (book n r)) → Booked n r

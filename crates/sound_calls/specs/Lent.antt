@@ -14,7 +14,7 @@ use Rattle.rules.specs.Desk.{outcome}
 
 -- an answer's number and values, for a booking or an offer, for a listing, and for a showing
 abbrev pub choice_shown : Answer → ChoiceRecord
-choice_shown a = record { refusal = (values a).number; start = record { 0 = (values a).start }; path = record { count = (values a).count; links = (values a).path } }
+choice_shown a = record { refusal = (values a).number; start = record { 0 = (values a).start }; path = record { count = (values a).count; links = (values a).path }; at = record { 0 = (values a).at } }
 
 abbrev pub listed : Answer → Listed
 listed a = record { refusal = (values a).number; count = (values a).ranges }

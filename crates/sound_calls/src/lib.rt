@@ -16,7 +16,7 @@ use choice::Granted;
 use lent::{Desk, LentTables};
 use refusals::{check_booking, check_cancel, check_clock, check_offer, check_show};
 use starts::{all_starts, best_start};
-use units::{Bandwidth, LinkNumber, Minute, Refusal, Request};
+use units::{Bandwidth, LinkNumber, Minute, Refusal, Refused, Request};
 
 // What a showing is answered: the number of a refusal, 0 if there is none, and the free bandwidth.
 #[repr(C)]
@@ -112,7 +112,7 @@ pub fn list_starts(
 }
 
 // A booking without commitment or number. It writes no table.
-pub fn offer(tables: &LentTables<'_>, request: Request) -> Result<Granted, Refusal>
+pub fn offer(tables: &LentTables<'_>, request: Request) -> Result<Granted, Refused>
     requires { Fine tables.now.links.now (tables_in tables.now) }
     ensures { values result ≡ choice_answer tables.now.links.now (tables_in tables.now) (ask (Ask.offer request)) }
 {
@@ -121,7 +121,7 @@ pub fn offer(tables: &LentTables<'_>, request: Request) -> Result<Granted, Refus
 }
 
 // Books the earliest start of the request's window.
-pub fn make_booking(desk: &mut Desk<'_>, number: u32, request: Request) -> Result<Granted, Refusal>
+pub fn make_booking(desk: &mut Desk<'_>, number: u32, request: Request) -> Result<Granted, Refused>
     requires { Fine desk.old.links.now (tables_of desk.old) }
     ensures loans { SameLoans desk.old desk.new }
     ensures answer { values result ≡ choice_answer desk.old.links.now (tables_of desk.old) (ask (Ask.book number request)) }

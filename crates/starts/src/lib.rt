@@ -7,7 +7,7 @@ ghost use Rattle.units.specs.Limits.{last_shown, most_ranges, list_size};
 ghost use Rattle.units.specs.Spans.{low_of, span_of};
 ghost use Rattle.units.specs.Columns.{column};
 ghost use Rattle.path_search.specs.Ends.{InRange};
-ghost use Rattle.choice.specs.Answer.{wanted, choice_for, chosen};
+ghost use Rattle.choice.specs.Answer.{wanted, choice_for, break_off_for, chosen};
 ghost use Rattle.listing.specs.Ranges.{ranges_for, list_table};
 ghost use Rattle.lent.specs.Lent.{tables_in};
 ghost use Rattle.starts.specs.Asked.{search_of, Asks};
@@ -16,7 +16,7 @@ use choice::{Asked, Granted, Search};
 use lent::LentTables;
 use listing::list_ranges;
 use path_search::LinkEnds;
-use units::{Duration, Head, Link, Refusal, Request, column, low_minute, span_of};
+use units::{Duration, Head, Link, Refused, Request, column, low_minute, span_of};
 
 // What a request asks of any start on these links.
 fn search_of(head: Head, links: &[Link], request: Request) -> Search
@@ -40,10 +40,12 @@ fn search_of(head: Head, links: &[Link], request: Request) -> Search
     }
 }
 
-// The earliest start of a request's window, with its path.
-pub fn best_start(tables: &LentTables<'_>, request: Request) -> Result<Granted, Refusal>
+// The earliest start of a request's window, with its path; refusal 8 where there is none, with the minute at which every path
+// from low on breaks off.
+pub fn best_start(tables: &LentTables<'_>, request: Request) -> Result<Granted, Refused>
     requires { Asks tables.now.links.now (tables_in tables.now) request }
-    ensures { result ≡ chosen (choice_for (search_of tables.now.head tables.now.links.now request) tables.now.events.now tables.now.free.now (low_of tables.now.head request) request.latest.0) }
+    ensures { let search = search_of tables.now.head tables.now.links.now request in let low = low_of tables.now.head request in
+        result ≡ chosen (break_off_for search tables.now.events.now tables.now.free.now low) (choice_for search tables.now.events.now tables.now.free.now low request.latest.0) }
 {
     let low = low_minute(tables.head, request);
     let search = search_of(tables.head, tables.links, request);

@@ -1,6 +1,7 @@
 -- The refusal numbers of documents 01 and 02, each once; 0 is the number of an accepted call.
 use Rattle.std.specs.Prelude.{ℕ, Result, Ok, Err}
 use Rattle.units.specs.declared.Refusal.{Refusal}
+use Rattle.units.specs.declared.Refused.{Refused}
 use Rattle.units.specs.declared.Refusal.TheVariants.{BadSize, BadLink, Unsound, BadField, TooLate, NumberStands, BookFull, NoStart, NotStanding, ClockBack, BadBits, BadLength, BadList}
 
 -- a size of a list or table
@@ -75,3 +76,7 @@ number BadList = bad_list
 abbrev pub number_of : {A : Type 0} → Result A Refusal → ℕ
 number_of (Ok _) = 0
 number_of (Err refusal) = number refusal
+
+-- document 02's 'other refusals bring 0': a refusal with no minute beside it
+abbrev pub without_minute : Refusal → Refused
+without_minute refusal = record { refusal = refusal; at = record { 0 = 0 } }

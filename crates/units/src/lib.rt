@@ -5,7 +5,7 @@
 
 ghost use Rattle.std.specs.Prelude.{◌≡◌, ℕ, ◌≤◌};
 ghost use Rattle.units.specs.Limits.{last_shown};
-ghost use Rattle.units.specs.Refusals.{number, number_of};
+ghost use Rattle.units.specs.Refusals.{number, number_of, without_minute};
 ghost use Rattle.units.specs.Spans.{low_of, span_of, most_span, release};
 ghost use Rattle.units.specs.declared.Link.{Link};
 ghost use Rattle.units.specs.Columns.{column, Reads};
@@ -97,6 +97,25 @@ pub fn refusal_number(answer: Result<(), Refusal>) -> u32
 #[repr(C)]
 #[derive(Clone, Copy, PartialEq, Eq, PartialOrd, Ord)]
 pub struct Minute(pub u32);
+
+// Why a booking or an offer is refused. Beside `NoStart` stands the minute at which every path from low on breaks off; beside any
+// other refusal 0.
+#[derive(Clone, Copy)]
+pub struct Refused {
+    pub refusal: Refusal,
+    pub at: Minute,
+}
+
+impl From<Refusal> for Refused {
+    ghost from_gives = { λ refusal refused. refused ≡ without_minute refusal };
+
+    fn from(refusal: Refusal) -> Refused {
+        Refused {
+            refusal,
+            at: Minute(0),
+        }
+    }
+}
 
 // A length of time, in whole minutes.
 #[repr(C)]
