@@ -11,7 +11,7 @@ use Rattle.timeline.specs.Events.{events}
 use Rattle.timeline.proofs.Steady.{ChangesAt}
 use Rattle.free_table.specs.Figures.{table, kept}
 use Rattle.free_table.proofs.Figures.{kept_figure}
-use Rattle.free_table.proofs.SpanCheck.{all_from_agree}
+use Rattle.units.proofs.Search.{all_from_agree}
 use Rattle.path_search.specs.Paths.{Graph}
 use Rattle.path_search.proofs.Agree.{Agree, route_agree}
 use Rattle.choice.specs.Choice.{grant_at, try_at, choose}

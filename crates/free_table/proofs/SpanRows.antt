@@ -1,10 +1,14 @@
 -- The rows of a span, one by one: which of the table's they are, and each link's figure in them.
-use Rattle.std.proofs.Common.{◌≡◌, ℕ, zero, suc, ◌+◌, ◌-◌, ◌*◌, ◌≤◌, ◌<◌, List, [], ◌∷◌, length, get_or, take, drop, refl, ap, ap₂, ◌∙◌, zero-add, zero-mul, arith}
+use Rattle.std.proofs.Common.{◌≡◌, ℕ, zero, suc, ◌+◌, ◌-◌, ◌*◌, ◌≤◌, ◌<◌, Bool, true, false, cond, ltb, Option, Some, None, List, [], ◌∷◌, length, get_or, take, drop, refl, ap, ap₂, ◌∙◌, add-one, zero-add, zero-mul, arith}
 use Rattle.std.proofs.Math.Seq.{get_or-take, get_or-drop, drop-drop}
 use Rattle.std.specs.Simd.{first_chunks}
+use Rattle.std.specs.List.{position_from, position_or_len}
+use Rattle.std.proofs.lemmas.Iterator.Adapters.{position_from-zero}
 use Rattle.units.specs.Limits.{most_links}
+use Rattle.units.specs.Search.{Found, at, nothing, found_or, first_from}
+use Rattle.units.proofs.Search.{first_from_agree}
 use Rattle.timeline.specs.Events.{row_at}
-use Rattle.free_table.specs.Looking.{span_rows}
+use Rattle.free_table.specs.Looking.{span_rows, lacking_row, row_minute, minute_found}
 
 chunks_from : (size i k : ℕ) (t : List ℕ) → drop i (first_chunks size (i + k) t) ≡ first_chunks size k (drop (i * size) t)
 chunks_from size zero k t = rw (zero-add, zero-mul) refl
@@ -64,3 +68,72 @@ module _ (es : List ℕ) (start end : ℕ) (t : List ℕ) where
       ∙ get_or-take most_links (drop (row * most_links) (drop (row_at es start * most_links) t)) l 0 k
       ∙ get_or-drop (row * most_links) (drop (row_at es start * most_links) t) l 0
 
+-- ---- the first row that passes a test, as `position` finds it
+
+abbrev pub found_at : Option ℕ → Found
+found_at (Some i) = at i
+found_at None = nothing
+
+found_cond : (b : Bool) (i : ℕ) (r : Option ℕ) → found_at (cond b (Some i) r) ≡ elim b as (λ x. Found) [ true ↦ at i | false ↦ found_at r ]
+found_cond true i r = refl
+found_cond false i r = refl
+
+position_first : (test : List ℕ → Bool) (rows : List (List ℕ)) (i : ℕ) → found_at (position_from test i rows) ≡ first_from i (length rows) (λ k. test (get_or rows (k - i) []))
+unfolding first_from
+position_first test [] i = refl
+position_first test (r ∷ rows) i =
+    found_cond (test r) i (position_from test (i + 1) rows)
+    ∙ ap₂ (λ b f. elim b as (λ x. Found) [ true ↦ at i | false ↦ f ]) (ap (λ k. test (get_or (r ∷ rows) k [])) here)
+    (rw add-one (position_first test rows (suc i))
+    ∙ first_from_agree (λ k. test (get_or rows (k - suc i) [])) (λ k. test (get_or (r ∷ rows) (k - i) [])) (suc i) (length rows) (λ k a b. ap (λ j. test (get_or (r ∷ rows) j [])) (behind k a)))
+  where
+    here : 0 ≡ i - i
+    here = omega arith
+
+    behind : (k : ℕ) → suc i ≤ k → suc (k - suc i) ≡ k - i
+    behind k a = omega arith
+
+module _ (es : List ℕ) (start end : ℕ) (t : List ℕ) (l bandwidth : ℕ) (column : l < most_links) where
+  abbrev rows : List (List ℕ)
+  rows = span_rows es start end t
+
+  abbrev pub lacks_in : List ℕ → Bool
+  lacks_in row = ltb (get_or row l 0) bandwidth
+
+  -- of the rows of a span, the first in which the link has less than the bandwidth
+  pub lacking_rows : first_from 0 (length rows) (λ k. lacks_in (get_or rows k [])) ≡ lacking_row (suc (row_at es (end - 1) - row_at es start)) l bandwidth (drop (row_at es start * most_links) t)
+  unfolding lacking_row
+  lacking_rows =
+      ap (λ n. first_from 0 n (λ k. lacks_in (get_or rows k []))) (span_rows_length es start end t)
+      ∙ first_from_agree _ _ 0 (suc (row_at es (end - 1) - row_at es start)) (λ k a b. ap (λ x. ltb x bandwidth) (span_figure es start end t k l (omega (arith, span_rows_length es start end t)) column))
+
+  -- as `position` finds it
+  pub lacking_is : (r : Option ℕ) → r ≡ cond (ltb (position_or_len lacks_in rows) (length rows)) (Some (position_or_len lacks_in rows)) None
+      → found_at r ≡ lacking_row (suc (row_at es (end - 1) - row_at es start)) l bandwidth (drop (row_at es start * most_links) t)
+  lacking_is r e =
+      ap found_at (e ∙ position_from-zero lacks_in rows)
+      ∙ position_first lacks_in rows 0
+      ∙ first_from_agree (λ k. lacks_in (get_or rows (k - 0) [])) (λ k. lacks_in (get_or rows k [])) 0 (length rows) (λ k a b. let same : k - 0 ≡ k = omega arith in ap (λ j. lacks_in (get_or rows j [])) same)
+      ∙ lacking_rows
+
+-- ---- the rows from one on, as a loop goes back over them
+
+module _ (es : List ℕ) (start end : ℕ) (rows : List (List ℕ)) (l bandwidth : ℕ) where
+  -- the first minute in one of the rows from `row` on in which the link has less than the bandwidth, or the end
+  abbrev pub until_from : ℕ → ℕ
+  until_from row = found_or end (minute_found es start (first_from row (length rows - row) (λ k. ltb (get_or (get_or rows k []) l 0) bandwidth)))
+
+  pub until_past : until_from (length rows) ≡ end
+  unfolding first_from
+  until_past = let none : length rows - length rows ≡ 0 = omega arith in rw none refl
+
+  found_until : (b : Bool) (i : ℕ) (f : Found)
+      → found_or end (minute_found es start (elim b as (λ x. Found) [ true ↦ at i | false ↦ f ])) ≡ cond b (row_minute es start i) (found_or end (minute_found es start f))
+  found_until true i f = refl
+  found_until false i f = refl
+
+  pub until_before : (row : ℕ) → row < length rows → until_from row ≡ cond (ltb (get_or (get_or rows row []) l 0) bandwidth) (row_minute es start row) (until_from (suc row))
+  unfolding first_from
+  until_before row h =
+      let one : length rows - row ≡ suc (length rows - suc row) = omega arith in
+      rw one (found_until (ltb (get_or (get_or rows row []) l 0) bandwidth) row (first_from (suc row) (length rows - suc row) (λ k. ltb (get_or (get_or rows k []) l 0) bandwidth)))

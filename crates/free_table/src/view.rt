@@ -71,7 +71,12 @@ impl FreeTable<'_> {
     }
 
     // The first minute of an interval at which one link has less than the bandwidth free, or that there is none.
-    pub fn first_missing(&self, minutes: Interval, link: LinkNumber, bandwidth: Bandwidth) -> Missing
+    pub fn first_missing(
+        &self,
+        minutes: Interval,
+        link: LinkNumber,
+        bandwidth: Bandwidth,
+    ) -> Missing
         requires { link.0 < most_links }
         ensures { result ≡ missing_of (first_missing self.now.events.now minutes.start.0 minutes.end.0 link.0 bandwidth.0 self.now.figures.now) }
     {

@@ -9,17 +9,10 @@ use native.Mathlib.Omega.{arith}
 use lib.Dec.{eqb}
 use Rattle.units.specs.Limits.{most_hops}
 use Rattle.units.specs.Search.{Found, at, nothing, first_from, any_below}
-use Rattle.units.proofs.Search.{IsFirst, first_from_found}
+use Rattle.units.proofs.Search.{IsFirst, first_from_found, first_from_agree}
 use Rattle.path_search.specs.Paths.{Graph, along, onward, reaches, lowest, fewest, route_of, route}
 
--- tests that agree on the range find the same
-pub first_from_agree : (p q : ℕ → Bool) (i n : ℕ) → ((k : ℕ) → i ≤ k → k < i + n → p k ≡ q k) → first_from i n p ≡ first_from i n q
-unfolding first_from
-first_from_agree p q i zero h = refl
-first_from_agree p q i (suc n) h =
-    ap₂ (λ t r. elim t as (λ x. Found) [ true ↦ at i | false ↦ r ]) (h i (le_refl i) (omega arith))
-    (first_from_agree p q (suc i) n (λ k a b. h k (omega arith) (omega arith)))
-
+-- tests that agree below n find alike
 pub any_below_agree : (p q : ℕ → Bool) (n : ℕ) → ((k : ℕ) → k < n → p k ≡ q k) → any_below n p ≡ any_below n q
 unfolding any_below
 any_below_agree p q zero h = refl

@@ -22,7 +22,6 @@ use Rattle.path_search.specs.Picks.{least_end, nearer_link, picked, Walkable}
 use Rattle.path_search.specs.Answer.{found_link}
 use Rattle.path_search.proofs.Chains.{Leaves, reaches_first, reaches_step, lowest_length}
 use Rattle.path_search.proofs.Loops.{NodesBelow}
-use Rattle.path_search.proofs.Agree.{first_from_agree}
 use Rattle.path_search.proofs.DistanceLaws.{Says, fewest_are, none_yet, says}
 
 module _ (g : Graph) (usable : ℕ → Bool) (figure : ℕ → ℕ) (v : ℕ) where

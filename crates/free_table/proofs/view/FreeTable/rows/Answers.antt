@@ -5,8 +5,8 @@ use Rattle.timeline.proofs.Rows.{row_inside, row_later}
 use Rattle.free_table.proofs.SpanRows.{rows_are}
 use Rattle.free_table.proofs.view.FreeTable.rows.Goals as goal
 
-pub returns : goal.returns
-returns c =
+pub returns-clause-rows : goal.returns-clause-rows
+returns-clause-rows c =
     let a = c.args in
     let es = a.self.now.events.now in
     let t = a.self.now.figures.now in
