@@ -14,12 +14,10 @@ use Rattle.path_search.specs.declared.Path.{Path}
 use Rattle.path_search.specs.Paths.{Graph, Route, along, none}
 use Rattle.path_search.specs.Answer.{graph, path_of, found_path}
 use Rattle.choice.specs.declared.asked.Asked.{Asked}
-use Rattle.std.proofs.Common.{Result}
-use Rattle.units.specs.declared.Refusal.{Refusal}
 use Rattle.choice.specs.declared.Granted.{Granted}
 use Rattle.choice.specs.Choice.{Grant, Choice, granted, grant_at, route_at, try_at, possible}
 use Rattle.choice.specs.EventTables.{clock_of}
-use Rattle.choice.specs.Answer.{wanted, carried, route_of, possible_of, choice_of, Askable, start_with, refusal, chosen}
+use Rattle.choice.specs.Answer.{wanted, carried, route_of, possible_of, choice_of, Askable, given_start, found_start}
 use Rattle.choice.proofs.Starts.{Tried, earliest_none, earliest_low, earliest_event, earliest_none_left, earliest_too_late, granted_can_start, no_start_cannot}
 use Rattle.choice.proofs.Possible.{possible_back}
 use Rattle.choice.proofs.Lent.{kept_back, event_at}
@@ -36,7 +34,7 @@ module _ (g : Graph) (usable : ℕ → ℕ → Bool) (from to m : ℕ) (r : Opti
       by none e = let q : Some p ≡ None = sym some ∙ answered ∙ ap found_path e in absurd (let z : ◌≡◌ {A = ℕ} 0 1 = cc in omega arith)
 
   -- so the start is possible if and only if there is one
-  some_route : is_some r ≡ possible g usable from to m
+  pub some_route : is_some r ≡ possible g usable from to m
   some_route = by (route_at g usable from to m) refl
     where
       by : (x : Route) → route_at g usable from to m ≡ x → is_some r ≡ possible g usable from to m
@@ -84,8 +82,8 @@ module _ (a : Asked) where
   possible_some = some_route g carries_it from to
 
   module _ (low latest : ℕ) (early : clock ≤ low) where
-    abbrev Answered : Result Granted Refusal → Type 0
-    Answered r = r ≡ chosen (choice_of a low latest)
+    abbrev Finds : Option Granted → Type 0
+    Finds r = r ≡ found_start (choice_of a low latest)
 
     back : (k m : ℕ) → k ≤ m → NoneBetween times k m → possible_of a m ≡ true → possible_of a k ≡ true
     back = possible_back g carries_it from to times carried_back
@@ -97,36 +95,36 @@ module _ (a : Asked) where
     tried_events i h = record { not_low = h.not_low; not_events = λ j b c d. rw (place j) at (h.not_events j b (rw (place j) c) (rw (place j) d)) }
 
     -- a window that ends before it begins has no start
-    pub answer_empty : latest < low → Answered refusal
-    answer_empty h = sym (ap chosen (earliest_none try_of low latest (λ m b c. absurd (omega arith))))
+    pub finds_empty : latest < low → Finds None
+    finds_empty h = sym (ap found_start (earliest_none try_of low latest (λ m b c. absurd (omega arith))))
 
     -- low, where it has a path
-    pub answer_low : low ≤ latest → (r : Option Path) → r ≡ found_path (route_of a low) → (p : Path) → r ≡ Some p → Answered (start_with (record { 0 = low }) p)
-    answer_low h r e p some =
+    pub finds_low : low ≤ latest → (r : Option Path) → r ≡ found_path (route_of a low) → (p : Path) → r ≡ Some p → Finds (Some (given_start low p))
+    finds_low h r e p some =
         let f = route_found g carries_it from to low r e p some in
-        ap (start_with (record { 0 = low })) f.2 ∙ sym (ap chosen (earliest_low try_of clock times back low latest early (record { start = low; path = f.0 }) h (ap (grant_at low) f.1)))
+        ap (λ x. Some (given_start low x)) f.2 ∙ sym (ap found_start (earliest_low try_of clock times back low latest early (record { start = low; path = f.0 }) h (ap (grant_at low) f.1)))
 
     module _ (i : ℕ) (tried : Tried (possible_of a) es low latest i) where
       -- the next event, where it lies in the window and has a path
-      pub answer_event : low < get_or es i 0 → get_or es i 0 ≤ latest → (r : Option Path) → r ≡ found_path (route_of a (get_or es i 0)) → (p : Path) → r ≡ Some p
-          → Answered (start_with (record { 0 = get_or es i 0 }) p)
-      answer_event b c r e p some =
+      pub finds_event : low < get_or es i 0 → get_or es i 0 ≤ latest → (r : Option Path) → r ≡ found_path (route_of a (get_or es i 0)) → (p : Path) → r ≡ Some p
+          → Finds (Some (given_start (get_or es i 0) p))
+      finds_event b c r e p some =
           let f = route_found g carries_it from to (get_or es i 0) r e p some in
           let inside : i < length (events clock times) = by (side i (length (events clock times))) in
-          ap (start_with (record { 0 = get_or es i 0 })) f.2
-          ∙ ap (λ m. chosen (granted (record { start = m; path = f.0 }))) (place i)
-          ∙ sym (ap chosen (earliest_event try_of clock times back low latest early i (record { start = get_or (events clock times) i 0; path = f.0 }) (tried_events i tried) inside (rw (place i) at b) (rw (place i) at c) (subst (λ m. try_of m ≡ granted (record { start = m; path = f.0 })) (place i) (ap (grant_at (get_or es i 0)) f.1))))
+          ap (λ x. Some (given_start (get_or es i 0) x)) f.2
+          ∙ ap (λ m. found_start (granted (record { start = m; path = f.0 }))) (place i)
+          ∙ sym (ap found_start (earliest_event try_of clock times back low latest early i (record { start = get_or (events clock times) i 0; path = f.0 }) (tried_events i tried) inside (rw (place i) at b) (rw (place i) at c) (subst (λ m. try_of m ≡ granted (record { start = m; path = f.0 })) (place i) (ap (grant_at (get_or es i 0)) f.1))))
         where
           by : Side i (length (events clock times)) → i < length (events clock times)
           by (below h) = h
           by (above h) = absurd (omega (arith, place i, get_or-eq_default (events clock times) 0 h, b))
 
       -- no start, where the next event is too late or none is left
-      pub answer_late : latest < get_or es i 0 → Answered refusal
-      answer_late h = sym (ap chosen (earliest_too_late try_of clock times back low latest early i (tried_events i tried) (rw (place i) at h)))
+      pub finds_late : latest < get_or es i 0 → Finds None
+      finds_late h = sym (ap found_start (earliest_too_late try_of clock times back low latest early i (tried_events i tried) (rw (place i) at h)))
 
-      pub answer_left : length es ≤ i → Answered refusal
-      answer_left h =
+      pub finds_left : length es ≤ i → Finds None
+      finds_left h =
           let long : length (events clock times) ≤ i = omega (arith, simp (length-append) at (ap length a.are_events)) in
           let all = tried_events i tried in
-          sym (ap chosen (earliest_none_left try_of clock times back low latest early (record { not_low = all.not_low; not_events = λ j b. all.not_events j (omega arith) })))
+          sym (ap found_start (earliest_none_left try_of clock times back low latest early (record { not_low = all.not_low; not_events = λ j b. all.not_events j (omega arith) })))

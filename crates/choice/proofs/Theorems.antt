@@ -4,13 +4,13 @@ use mathlib.Core.Path.{◌≡◌, refl, sym, ◌∙◌, ap, subst}
 use mathlib.Core.Logic.{◌≢◌, ◌↔◌, ◌⊎◌}
 use mathlib.Core.List.{List, Memᴰ}
 use mathlib.Core.Bool.{Bool, true}
-use Prim.Native.Nat.{ℕ, suc, ◌+◌, ◌≤◌, ◌<◌}
+use Prim.Native.Nat.{ℕ, suc, ◌+◌, ◌-◌, ◌≤◌, ◌<◌}
 use native.Mathlib.Nat.{le_refl, le_trans, le_antisymm}
 use native.Mathlib.Decide.{dec_lt}
 use native.Mathlib.Omega.{arith}
-use Rattle.std.proofs.Common.{Result}
+use Rattle.std.proofs.Common.{Result, Ok}
 use Rattle.units.specs.Limits.{last_node}
-use Rattle.units.proofs.Tests.{Tells, at_most}
+use Rattle.units.proofs.Tests.{Tells, at_most, order, less, same, more}
 use Rattle.units.proofs.Search.{clash, all_from_all, all_allFrom}
 use Rattle.units.proofs.Parts.{all_map, all_at}
 use Rattle.timeline.specs.Events.{events}
@@ -25,20 +25,22 @@ use Rattle.path_search.proofs.Chains.{Way}
 use Rattle.path_search.proofs.Loops.{NodesBelow}
 use Rattle.path_search.proofs.Paths.{chain_leads}
 use Rattle.path_search.proofs.InRange.{nodes_below}
-use Rattle.units.specs.declared.Refusal.{Refusal}
+use Rattle.units.specs.declared.Refused.{Refused}
 use Rattle.choice.specs.declared.Granted.{Granted}
 use Rattle.choice.specs.Choice.{Grant, Choice, granted, route_at, try_at, possible, choose}
 use Rattle.choice.specs.Carrying.{suffices, carries}
-use Rattle.choice.specs.Answer.{wanted, choice_for, start_with, refusal, chosen}
-use Rattle.choice.specs.Right.{NowhereLower, FreeThroughout, CarriedBy, Best, NonePossible, Right, best, none_possible}
+use Rattle.choice.specs.BreakOff.{break_off}
+use Rattle.choice.specs.Answer.{wanted, choice_for, break_off_for, given_start, refusal, chosen}
+use Rattle.choice.specs.Right.{NowhereLower, FreeIn, CarriedIn, CarriedBy, BreaksOff, Best, NonePossible, Right, best, none_possible}
 use Rattle.choice.proofs.Choice.{granted≢no_start, IsGrant, is_grant_only, ChoiceView, grants, grants_none, choose_view}
 use Rattle.choice.proofs.Starts.{ChoiceFound, found, none_found, choice_found}
 use Rattle.choice.proofs.Possible.{grant_starts, possible_more}
+use Rattle.choice.proofs.BreakOff.{chains_break_off}
 
 -- a start is no refusal
-started_refused : {X : Type 0} (start : ℕ) (path : Path) → start_with (record { 0 = start }) path ≡ refusal → X
-started_refused start path e =
-    let apart : ◌≡◌ {A = Result Granted Refusal} (start_with (record { 0 = start }) path) refusal = e in
+started_refused : {X : Type 0} (start m : ℕ) (path : Path) → Ok (given_start start path) ≡ refusal m → X
+started_refused start m path e =
+    let apart : ◌≡◌ {A = Result Granted Refused} (Ok (given_start start path)) (refusal m) = e in
     let z : ◌≡◌ {A = ℕ} 0 1 = cc in
     absurd (omega arith)
 
@@ -51,22 +53,28 @@ module _ (g : Graph) (figure : ℕ → ℕ → ℕ) (bandwidth duration source d
 
   -- ---- the test of a span, and the chains that pass it
 
-  carries_tells : (m l : ℕ) → Tells (carried m l) (FreeThroughout g figure bandwidth duration source destination m l)
-  carries_tells m l =
+  carries_tells : (n m l : ℕ) → Tells (carries figure bandwidth n m l) (FreeIn g figure bandwidth duration source destination m (m + n) l)
+  carries_tells n m l =
       let fits : ℕ → Bool = λ k. suffices bandwidth (figure l k) in (
-        (λ e k a b. (at_most bandwidth (figure l k)).0 (all_from_all fits m duration e k a b)),
-        λ h. all_allFrom fits m duration (λ k a b. (at_most bandwidth (figure l k)).1 (h k a b)),
+        (λ e k a b. (at_most bandwidth (figure l k)).0 (all_from_all fits m n e k a b)),
+        λ h. all_allFrom fits m n (λ k a b. (at_most bandwidth (figure l k)).1 (h k a b)),
       )
 
+  way_in : (n m : ℕ) (path : List ℕ) → Way g (carries figure bandwidth n m) destination source path → CarriedIn g figure bandwidth duration source destination m (m + n) path
+  way_in n m path w =
+      let h = (chain_leads g (λ l. carries figure bandwidth n m l ≡ true) source destination path).0 w in
+      (h.0, all_map (λ l. carries figure bandwidth n m l ≡ true) (FreeIn g figure bandwidth duration source destination m (m + n)) (λ l. (carries_tells n m l).0) path h.1)
+
+  in_way : (n m : ℕ) (path : List ℕ) → CarriedIn g figure bandwidth duration source destination m (m + n) path → Way g (carries figure bandwidth n m) destination source path
+  in_way n m path h =
+      (chain_leads g (λ l. carries figure bandwidth n m l ≡ true) source destination path).1
+      (h.0, all_map (FreeIn g figure bandwidth duration source destination m (m + n)) (λ l. carries figure bandwidth n m l ≡ true) (λ l. (carries_tells n m l).1) path h.1)
+
   way_carried : (m : ℕ) (path : List ℕ) → Way g (carried m) destination source path → At m path
-  way_carried m path w =
-      let h = (chain_leads g (λ l. carried m l ≡ true) source destination path).0 w in
-      (h.0, all_map (λ l. carried m l ≡ true) (FreeThroughout g figure bandwidth duration source destination m) (λ l. (carries_tells m l).0) path h.1)
+  way_carried = way_in duration
 
   carried_way : (m : ℕ) (path : List ℕ) → At m path → Way g (carried m) destination source path
-  carried_way m path h =
-      (chain_leads g (λ l. carried m l ≡ true) source destination path).1
-      (h.0, all_map (FreeThroughout g figure bandwidth duration source destination m) (λ l. carried m l ≡ true) (λ l. (carries_tells m l).1) path h.1)
+  carried_way = in_way duration
 
   -- ---- low and the events
 
@@ -82,17 +90,30 @@ module _ (g : Graph) (figure : ℕ → ℕ → ℕ) (bandwidth duration source d
         last_start_is c ts low m early h,
         (
           w.0,
-          all_map (FreeThroughout g figure bandwidth duration source destination m) (FreeThroughout g figure bandwidth duration source destination e)
+          all_map (FreeIn g figure bandwidth duration source destination m (m + duration)) (FreeIn g figure bandwidth duration source destination e (e + duration))
               (λ l. span_back (figure l) (λ x. bandwidth ≤ x) ts (s l) e m duration (last_start_le c ts low m early h) (last_start_between c ts low m early h)) path w.1,
         ),
       )
 
+  -- ---- where it breaks off
+
+  -- there is one such minute
+  pub breaks_off_only : {low : ℕ} (m n : ℕ) → BreaksOff g figure bandwidth duration source destination low m → BreaksOff g figure bandwidth duration source destination low n → m ≡ n
+  breaks_off_only m n b d = elim (order m n) [
+    | less h ↦ absurd (let p = d.lasts_before m b.from_low h in b.none_lasts p.0 p.1)
+    | same h ↦ h
+    | more h ↦ absurd (let p = b.lasts_before n d.from_low h in d.none_lasts p.0 p.1)
+  ]
+
   module _ (low latest : ℕ) where
-    abbrev RightAnswer : Result Granted Refusal → Type 0
+    abbrev RightAnswer : Result Granted Refused → Type 0
     RightAnswer = Right g figure bandwidth duration source destination low latest
 
     abbrev None : Type 0
     None = NonePossible g figure bandwidth duration source destination low latest
+
+    abbrev broken : ℕ
+    broken = break_off g (carries figure bandwidth) source destination duration low
 
     -- The latest start, which source document 001 tries too, isn't needed: the best start is low or an event.
     pub latest_not_needed : (c : ℕ) (ts : List ℕ) → ((l : ℕ) → ChangesAt ts (figure l)) → c ≤ low → (start : ℕ) (path : List ℕ)
@@ -114,15 +135,15 @@ module _ (g : Graph) (figure : ℕ → ℕ → ℕ) (bandwidth duration source d
     pub partly_free_unused : (start : ℕ) (path : List ℕ) → Best g figure bandwidth duration source destination low latest start path
         → (l k : ℕ) → start ≤ k → k < start + duration → figure l k < bandwidth → ¬ Memᴰ l path
     partly_free_unused start path b l k early late short i =
-        let enough = all_at (FreeThroughout g figure bandwidth duration source destination start) b.carried.1 i k early late in
+        let enough = all_at (FreeIn g figure bandwidth duration source destination start (start + duration)) b.carried.1 i k early late in
         omega arith
 
     -- ---- the answer
 
     -- Refusal 8 if and only if no minute of the window has a chain.
-    pub refused_iff : (r : Result Granted Refusal) → RightAnswer r → (r ≡ refusal) ↔ None
-    refused_iff r (best start path b) = ((λ e. started_refused start (path_of path) e), λ h. absurd (h start path b.in_window b.carried))
-    refused_iff r (none_possible h) = ((λ e. h), λ k. refl)
+    pub refused_iff : (r : Result Granted Refused) → RightAnswer r → ((m : ℕ) × (r ≡ refusal m)) ↔ None
+    refused_iff r (best start path b) = ((λ e. started_refused start e.0 (path_of path) e.1), λ h. absurd (h start path b.in_window b.carried))
+    refused_iff r (none_possible m h b) = ((λ e. h), λ k. (m, refl))
 
     best_grant : (start : ℕ) (path : List ℕ) → Best g figure bandwidth duration source destination low latest start path
         → IsGrant g carried source destination low latest (record { start = start; path = path })
@@ -139,19 +160,30 @@ module _ (g : Graph) (figure : ℕ → ℕ → ℕ) (bandwidth duration source d
         }
 
     -- One answer is right.
-    pub right_only : (r s : Result Granted Refusal) → RightAnswer r → RightAnswer s → r ≡ s
+    pub right_only : (r s : Result Granted Refused) → RightAnswer r → RightAnswer s → r ≡ s
     right_only r s (best m p b) (best n q d) =
-        ap (λ x. chosen (granted x)) (is_grant_only g carried source destination low latest (record { start = m; path = p }) (record { start = n; path = q }) (best_grant m p b) (best_grant n q d))
-    right_only r s (best m p b) (none_possible h) = absurd (h m p b.in_window b.carried)
-    right_only r s (none_possible h) (best n q d) = absurd (h n q d.in_window d.carried)
-    right_only r s (none_possible h) (none_possible k) = refl
+        ap (λ x. chosen 0 (granted x)) (is_grant_only g carried source destination low latest (record { start = m; path = p }) (record { start = n; path = q }) (best_grant m p b) (best_grant n q d))
+    right_only r s (best m p b) (none_possible n h d) = absurd (h m p b.in_window b.carried)
+    right_only r s (none_possible m h b) (best n q d) = absurd (h n q d.in_window d.carried)
+    right_only r s (none_possible m h b) (none_possible n k d) = ap refusal (breaks_off_only m n b d)
 
-    module _ (apart : source ≢ destination) (below : NodesBelow g (suc last_node)) (node : source ≤ last_node) where
-      -- The choice is the earliest minute, then fewest links, then the lower number at the first difference, or refusal 8.
-      pub choose_right : RightAnswer (chosen (choose g carried source destination low latest))
+    module _ (apart : source ≢ destination) (below : NodesBelow g (suc last_node)) (node : source ≤ last_node) (lasts : 1 ≤ duration) (window : low ≤ latest) where
+      -- where no path lasts throughout low's span, every path from low on breaks off
+      none_breaks_off : ((path : List ℕ) → ¬ Way g (carried low) destination source path) → BreaksOff g figure bandwidth duration source destination low broken
+      none_breaks_off none =
+          let b = chains_break_off g (carries figure bandwidth) source destination duration low apart below node lasts none in
+          record {
+            from_low = b.from_low;
+            none_lasts = λ path h. let end : suc broken ≡ low + (suc broken - low) = omega (arith, b.from_low) in b.none_lasts path (in_way (suc broken - low) low path (subst (λ e. CarriedIn g figure bandwidth duration source destination low e path) end h));
+            lasts_before = λ k x y. let w = b.lasts_before k x y in let end : low + (suc k - low) ≡ suc k = omega arith in (w.0, subst (λ e. CarriedIn g figure bandwidth duration source destination low e w.0) end (way_in (suc k - low) low w.0 w.1));
+          }
+
+      -- The choice is the earliest minute, then fewest links, then the lower number at the first difference, or refusal 8 with the
+      -- minute at which every path from low on breaks off.
+      pub choose_right : RightAnswer (chosen broken (choose g carried source destination low latest))
       choose_right = by (choose g carried source destination low latest) (choose_view g carried source destination low latest apart below node)
         where
-          by : (x : Choice Grant) → ChoiceView g carried source destination low latest apart below node x → RightAnswer (chosen x)
+          by : (x : Choice Grant) → ChoiceView g carried source destination low latest apart below node x → RightAnswer (chosen broken x)
           by x (grants d i) =
               best d.start d.path (record {
                 in_window = (i.not_before, i.not_after);
@@ -160,7 +192,7 @@ module _ (g : Graph) (figure : ℕ → ℕ → ℕ) (bandwidth duration source d
                 fewest = λ other h. i.is_route.fewest other (carried_way d.start other h);
                 lower = λ other h. i.is_route.lowest other (carried_way d.start other h);
               })
-          by x (grants_none h) = none_possible (λ m path w k. h m path w.0 w.1 (carried_way m path k))
+          by x (grants_none h) = none_possible broken (λ m path w k. h m path w.0 w.1 (carried_way m path k)) (none_breaks_off (λ path. h low path (le_refl low) window))
 
 -- ---- figures that are nowhere lower
 
@@ -180,8 +212,8 @@ module _ (g : Graph) (before after : ℕ → ℕ → ℕ) (more : NowhereLower b
 
   still_carried : (m l : ℕ) → carried_before m l ≡ true → carried_after m l ≡ true
   still_carried m l e =
-      (carries_tells g after bandwidth duration source destination m l).1
-      (λ k a b. le_trans ((carries_tells g before bandwidth duration source destination m l).0 e k a b) (more l k))
+      (carries_tells g after bandwidth duration source destination duration m l).1
+      (λ k a b. le_trans ((carries_tells g before bandwidth duration source destination duration m l).0 e k a b) (more l k))
 
   -- They make no start impossible.
   pub stays_possible : (m : ℕ) → possible g carried_before source destination m ≡ true → possible g carried_after source destination m ≡ true
@@ -203,8 +235,8 @@ module _ (g : Graph) (before after : ℕ → ℕ → ℕ) (more : NowhereLower b
           (d, r, elim (dec_lt m n) [ yes k ↦ clash (stays_possible m f.passes) (i.before m f.low k) | no k ↦ omega (arith, at_m, at_n, ap (λ (x : Grant). x.start) same) ])
 
 -- What `choose` promises is right, by the figures that the lent tables keep.
-pub promise_right : (s : Search) (es t : List ℕ) (low latest : ℕ) → s.source ≢ s.destination → s.source ≤ last_node
-    → (r : Result Granted Refusal) → r ≡ chosen (choice_for (wanted s) es t low latest) → Right (graph s.ends) (kept es t) s.bandwidth.0 s.span.0 s.source s.destination low latest r
-promise_right s es t low latest apart node r e =
+pub promise_right : (s : Search) (es t : List ℕ) (low latest : ℕ) → s.source ≢ s.destination → s.source ≤ last_node → low ≤ latest
+    → (r : Result Granted Refused) → r ≡ chosen (break_off_for (wanted s) es t low) (choice_for (wanted s) es t low latest) → Right (graph s.ends) (kept es t) s.bandwidth.0 s.span.0 s.source s.destination low latest r
+promise_right s es t low latest apart node window r e =
     subst (Right (graph s.ends) (kept es t) s.bandwidth.0 s.span.0 s.source s.destination low latest) (sym e)
-    (choose_right (graph s.ends) (kept es t) s.bandwidth.0 s.span.0 s.source s.destination low latest apart (nodes_below s.ends) node)
+    (choose_right (graph s.ends) (kept es t) s.bandwidth.0 s.span.0 s.source s.destination low latest apart (nodes_below s.ends) node s.lasts window)

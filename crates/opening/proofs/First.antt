@@ -17,7 +17,7 @@ use Rattle.units.specs.Limits.{most_links}
 use Rattle.units.specs.Lists.{within, count_from}
 use Rattle.units.proofs.Tests.{in_range}
 use Rattle.units.specs.Search.{Found, at, nothing, first_from}
-use Rattle.units.proofs.Search.{IsFirst, first_from_found}
+use Rattle.units.proofs.Search.{IsFirst, first_from_found, first_from_agree}
 use Rattle.units.specs.Refusals.{bad_size, bad_length, number_of}
 use Rattle.layout.specs.Layout.{count_bytes, guard_bytes, lead_bytes, link_bytes}
 use Rattle.layout.specs.Records.{if_passed, link_read}

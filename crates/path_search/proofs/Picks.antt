@@ -15,7 +15,7 @@ use Rattle.std.proofs.Common.{Some, None}
 use Rattle.units.specs.declared.LinkNumber.{LinkNumber}
 use Rattle.units.specs.Limits.{last_node, most_hops}
 use Rattle.units.specs.Search.{Found, at, nothing, first_from}
-use Rattle.units.proofs.Search.{IsFirst, first_from_found, first_from_first, first_from_nothing, clash, not_true, passes?}
+use Rattle.units.proofs.Search.{IsFirst, first_from_found, first_from_first, first_from_nothing, first_from_agree, clash, not_true, passes?}
 use Rattle.path_search.specs.Paths.{Graph, reaches, lowest, fewest, along, none, route_of, route, onward}
 use Rattle.path_search.specs.Rounds.{far, distance}
 use Rattle.path_search.specs.Picks.{least_end, nearer_link, picked, Walkable}

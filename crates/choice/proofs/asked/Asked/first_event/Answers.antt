@@ -1,4 +1,4 @@
--- choose_event meets its contract. Low and the events at the places below the loop's are tried in vain.
+-- first_event meets its contract. Low and the events at the places below the loop's are tried in vain.
 use mathlib.Core.Path.{sym, ◌∙◌, ap}
 use native.Mathlib.Numerals.{add-one}
 use native.Mathlib.Omega.{arith}
@@ -7,19 +7,19 @@ use Rattle.std.specs.Option.{is_some}
 use Rattle.choice.specs.Answer.{possible_of}
 use Rattle.units.proofs.Minutes.{earlier, not_earlier}
 use Rattle.choice.proofs.Starts.{tried_next}
-use Rattle.choice.proofs.Exits.{possible_some, answer_event, answer_late, answer_left}
-use Rattle.choice.proofs.asked.Asked.choose_event.Goals as goal
-use Rattle.choice.proofs.asked.Asked.choose_event.Goals.{then-lt-2+in_default, else-lt-2}
+use Rattle.choice.proofs.Exits.{possible_some, finds_event, finds_late, finds_left}
+use Rattle.choice.proofs.asked.Asked.first_event.Goals as goal
+use Rattle.choice.proofs.asked.Asked.first_event.Goals.{then-lt-2+in_default, else-lt-2}
 
 pub returns-then-lt : goal.returns-then-lt
 returns-then-lt c =
     let l = c.loop-event in
-    answer_late c.args.self.now c.args.low.0 c.args.latest.0 c.requires.askable.not_past l.event-index l.invariant (earlier c.lt.ensures c.if-lt.true)
+    finds_late c.args.self.now c.args.low.0 c.args.latest.0 c.requires.askable.not_past l.event-index l.invariant (earlier c.lt.ensures c.if-lt.true)
 
 pub returns-in-Some : goal.returns-in-Some
 returns-in-Some c =
     let l = c.loop-event in
-    answer_event c.args.self.now c.args.low.0 c.args.latest.0 c.requires.askable.not_past l.event-index l.invariant (earlier c.lt-in-loop-event.ensures c.if-lt-2.true) (not_earlier c.lt.ensures c.if-lt.false) c.path_at.result c.path_at.ensures c.in-Some.path c.in-Some.is
+    finds_event c.args.self.now c.args.low.0 c.args.latest.0 c.requires.askable.not_past l.event-index l.invariant (earlier c.lt-in-loop-event.ensures c.if-lt-2.true) (not_earlier c.lt.ensures c.if-lt.false) c.path_at.result c.path_at.ensures c.in-Some.path c.in-Some.is
 
 pub loop-event-preserved : goal.loop-event-preserved
 loop-event-preserved c =
@@ -36,4 +36,4 @@ loop-event-preserved c =
 pub returns : goal.returns
 returns c =
     let l = c.loop-event in
-    answer_left c.args.self.now c.args.low.0 c.args.latest.0 c.requires.askable.not_past l.event-index l.invariant (omega arith)
+    finds_left c.args.self.now c.args.low.0 c.args.latest.0 c.requires.askable.not_past l.event-index l.invariant (omega arith)
