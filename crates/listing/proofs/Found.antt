@@ -16,7 +16,7 @@ use Rattle.path_search.specs.Paths.{Graph}
 use Rattle.path_search.specs.Answer.{graph}
 use Rattle.choice.specs.Choice.{Grant, Choice, granted, no_start, route_at, try_at, possible, choose}
 use Rattle.choice.specs.declared.asked.Asked.{Asked}
-use Rattle.choice.specs.Answer.{wanted, carried, route_of, possible_of, choice_of, chosen}
+use Rattle.choice.specs.Answer.{wanted, carried, route_of, possible_of, choice_of, found_start}
 use Rattle.choice.proofs.Starts.{ChoiceFound, found, none_found, choice_found}
 use Rattle.choice.proofs.Possible.{grant_starts}
 use Rattle.choice.proofs.Exits.{clock, times, carried_back, try_of}
@@ -35,7 +35,7 @@ abbrev pub start_or : ℕ → Choice Grant → ℕ
 start_or after c = minute_or after (start_of c)
 
 -- what is answered tells it
-pub start_answered : (c : Choice Grant) → start_granted (chosen c) ≡ start_of c
+pub start_answered : (c : Choice Grant) → start_granted (found_start c) ≡ start_of c
 start_answered (granted g) = refl
 start_answered no_start = refl
 

@@ -14,19 +14,19 @@ use Rattle.listing.specs.Ranges.{Range}
 use Rattle.histories.proofs.Checks as laws
 pub use Rattle.histories.proofs.Checks.{Passed, checked_elim, passed_answer, passed_all}
 use Rattle.rules.specs.Plain.{Plain, low}
-use Rattle.rules.specs.Calls.{book, set_up, stands, number_ok, request_ok, own_checks, first_refusal, Answer, done, starts, lists, shows, refused, refuse, Check, checked}
+use Rattle.rules.specs.Calls.{book, set_up, stands, number_ok, request_ok, own_checks, first_refusal, Refusal, Answer, done, starts, lists, shows, refused, refuse, no_start_at, Check, checked}
 use Rattle.rules.specs.Tables.{Tables, sized, table_checks}
 
-pub done≢refused : {X : Type 0} {k : ℕ} → done ≡ refuse k → X
+pub done≢refused : {X : Type 0} {f : Refusal} → done ≡ refused f → X
 done≢refused e = let z : ◌≡◌ {A = ℕ} 0 1 = cc in absurd (omega arith)
 
-pub starts≢refused : {X : Type 0} {g : Grant} {k : ℕ} → starts g ≡ refuse k → X
+pub starts≢refused : {X : Type 0} {g : Grant} {f : Refusal} → starts g ≡ refused f → X
 starts≢refused e = let z : ◌≡◌ {A = ℕ} 0 1 = cc in absurd (omega arith)
 
-pub lists≢refused : {X : Type 0} {rs : List Range} {k : ℕ} → lists rs ≡ refuse k → X
+pub lists≢refused : {X : Type 0} {rs : List Range} {f : Refusal} → lists rs ≡ refused f → X
 lists≢refused e = let z : ◌≡◌ {A = ℕ} 0 1 = cc in absurd (omega arith)
 
-pub shows≢refused : {X : Type 0} {x k : ℕ} → shows x ≡ refuse k → X
+pub shows≢refused : {X : Type 0} {x : ℕ} {f : Refusal} → shows x ≡ refused f → X
 shows≢refused e = let z : ◌≡◌ {A = ℕ} 0 1 = cc in absurd (omega arith)
 
 abbrev number_of : Answer → ℕ
@@ -36,8 +36,18 @@ number_of (lists rs) = 0
 number_of (shows x) = 0
 number_of (refused r) = r.number
 
-pub refuse_same : {j k : ℕ} → refuse j ≡ refuse k → j ≡ k
-refuse_same e = ap number_of e
+pub refused_same : {f h : Refusal} → refused f ≡ refused h → f.number ≡ h.number
+refused_same e = ap number_of e
+
+abbrev minute_of : Answer → ℕ
+minute_of done = 0
+minute_of (starts g) = 0
+minute_of (lists rs) = 0
+minute_of (shows x) = 0
+minute_of (refused r) = r.at
+
+pub no_start_same : {m n : ℕ} → no_start_at m ≡ no_start_at n → m ≡ n
+no_start_same e = ap minute_of e
 
 pub passed_done : (cs : List Check) → checked refuse cs done ≡ done → Passed cs
 passed_done = laws.passed_done refuse done (λ k e. done≢refused e)

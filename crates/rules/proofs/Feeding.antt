@@ -8,17 +8,17 @@ use Rattle.units.specs.Lists.{select}
 use Rattle.units.specs.declared.Request.{Request}
 use Rattle.choice.specs.Choice.{Grant}
 use Rattle.rules.specs.Plain.{Plain, terms}
-use Rattle.rules.specs.Calls.{Ask, book, offer, list, cancel, move_clock, show, Call, set_up_with, ask, Answer, done, starts, lists, shows, refused, refuse, next}
+use Rattle.rules.specs.Calls.{Ask, book, offer, list, cancel, move_clock, show, Call, set_up_with, ask, Refusal, Answer, done, starts, lists, shows, refused, next}
 use Rattle.rules.specs.Feeding.{RightlyFed}
 
-refusal_kept : (p : Plain) (c : Call) (k : ℕ) → next p c (refuse k) ≡ p
-refusal_kept p (set_up_with s) k = refl
-refusal_kept p (ask (book n r)) k = refl
-refusal_kept p (ask (offer r)) k = refl
-refusal_kept p (ask (list n r)) k = refl
-refusal_kept p (ask (cancel n)) k = refl
-refusal_kept p (ask (move_clock m)) k = refl
-refusal_kept p (ask (show l m)) k = refl
+refusal_kept : (p : Plain) (c : Call) (f : Refusal) → next p c (refused f) ≡ p
+refusal_kept p (set_up_with s) f = refl
+refusal_kept p (ask (book n r)) f = refl
+refusal_kept p (ask (offer r)) f = refl
+refusal_kept p (ask (list n r)) f = refl
+refusal_kept p (ask (cancel n)) f = refl
+refusal_kept p (ask (move_clock m)) f = refl
+refusal_kept p (ask (show l m)) f = refl
 
 booking_added : (p : Plain) (n : ℕ) (r : Request) (g : Grant)
     → ((next p (ask (book n r)) (starts g)).bookings ≡ record { number = n; terms = terms r; grant = g } ∷ p.bookings) × ((next p (ask (book n r)) (starts g)).clock ≡ p.clock)

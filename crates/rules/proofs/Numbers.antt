@@ -5,7 +5,7 @@ use Rattle.rules.specs.Numbers.{NumbersTell}
 
 pub numbers_tell : NumbersTell
 numbers_tell done = refl
-numbers_tell (starts g) = (refl, refl, refl, refl)
+numbers_tell (starts g) = (refl, refl, refl, refl, refl)
 numbers_tell (lists rs) = (refl, refl)
 numbers_tell (shows x) = (refl, refl)
-numbers_tell (refused r) = refl
+numbers_tell (refused r) = (refl, refl)

@@ -18,11 +18,12 @@ use Rattle.units.proofs.Tests.{member_tells, absent, in_range, at_most}
 use Rattle.units.proofs.Permuted.{length_permuted, member_permuted, select_permuted}
 use Rattle.units.proofs.Parts.{select_part, length_part, map_part, distinct_part, all_map, all_at, all_selected}
 use Rattle.choice.specs.Choice.{Grant}
+use Rattle.choice.specs.BreakOff.{break_off}
 use Rattle.choice.specs.Carrying.{carries as carries_by}
 use Rattle.listing.specs.Ranges.{ranges}
 use Rattle.histories.specs.Kinds as kinds
 use Rattle.rules.specs.Plain.{Booking, Plain, empty, span, terms, until, uses, taken, capacity, graph, free, low, with_book}
-use Rattle.rules.specs.Calls.{Ask, book, offer, list, cancel, move_clock, show, Call, set_up, set_up_with, ask, Answer, done, starts, lists, shows, refused, refuse, check, checked, numbers, stands, number_ok, request_ok, own_checks, request_checks, chosen, best, every, put_in, take_out, move_to, next, list_fits}
+use Rattle.rules.specs.Calls.{Ask, book, offer, list, cancel, move_clock, show, Call, set_up, set_up_with, ask, Answer, done, starts, lists, shows, refused, refuse, check, checked, numbers, stands, number_ok, request_ok, own_checks, request_checks, breaks_off, chosen, best, every, put_in, take_out, move_to, next, list_fits}
 use Rattle.rules.specs.Tables.{Tables, tables, held, sized, guard_check, table_checks}
 use Rattle.rules.specs.Desk.{answer, answer_with, left_by, outcome}
 use Rattle.rules.specs.Sound.{LinkRight, BookingRight, Obeys}
@@ -125,8 +126,8 @@ module _ (links : List Link) (p : Plain) {bs cs : List Booking} (q : Permᴰ bs 
   stands_permuted n = member_permuted n (Permᴰ.map (λ b. b.number) q)
 
   best_permuted : (r : Request) → best links (with_book p bs) r ≡ best links (with_book p cs) r
-  unfolding best
-  best_permuted r = ap (λ (f : ℕ → ℕ → ℕ). chosen (choice_by links r f (span p (terms r)) (low p r))) (free_permuted links p q)
+  unfolding best breaks_off
+  best_permuted r = ap (λ (f : ℕ → ℕ → ℕ). chosen (break_off (graph links) (carries_by f r.bandwidth.0) r.from r.to (span p (terms r)) (low p r)) (choice_by links r f (span p (terms r)) (low p r))) (free_permuted links p q)
 
   every_permuted : (r : Request) → every links (with_book p bs) r ≡ every links (with_book p cs) r
   unfolding every
@@ -228,7 +229,7 @@ module _ (links : List Link) (p : Plain) (o : Obeys links p) where
       let asked = request_right r h.1 in
       best_elim links p r o.links_right asked (Next (ask (book n r)))
       (λ g good. obeys_booked links p o n r asked ((in_range 1 last_number n).0 h.0) (not-true (stands n p.bookings) ok.1.1.0) (ltb-true (length p.bookings) most_bookings ok.1.1.1.0) g good)
-      o
+      (λ m. o)
 
   pub stays_obeyed : (c : Call) → Obeys links (next p c (answer_with links p c))
   unfolding kinds.answer checked Next

@@ -5,7 +5,7 @@ use Rattle.units.specs.declared.Request.{Request}
 use Rattle.units.specs.Lists.{select}
 use Rattle.choice.specs.Choice.{Grant}
 use Rattle.rules.specs.Plain.{Plain, terms}
-use Rattle.rules.specs.Calls.{Ask, book, offer, list, cancel, move_clock, show, Call, set_up, ask, Answer, done, starts, refuse, next}
+use Rattle.rules.specs.Calls.{Ask, book, offer, list, cancel, move_clock, show, Call, set_up, ask, Refusal, Answer, done, starts, refused, next}
 
 pub record RightlyFed : Type 0 where
   -- 'set-up makes the clock 0 and the list empty', and writes the guard 'as asked'
@@ -25,4 +25,4 @@ pub record RightlyFed : Type 0 where
   pub offer_keeps : (p : Plain) (r : Request) (a : Answer) → next p (ask (offer r)) a ≡ p
   pub listing_keeps : (p : Plain) (n : ℕ) (r : Request) (a : Answer) → next p (ask (list n r)) a ≡ p
   pub showing_keeps : (p : Plain) (l m : ℕ) (a : Answer) → next p (ask (show l m)) a ≡ p
-  pub refusal_keeps : (p : Plain) (c : Call) (k : ℕ) → next p c (refuse k) ≡ p
+  pub refusal_keeps : (p : Plain) (c : Call) (f : Refusal) → next p c (refused f) ≡ p

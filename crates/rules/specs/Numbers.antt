@@ -7,10 +7,10 @@ use Rattle.rules.specs.Calls.{Answer, done, starts, lists, shows, refused, Value
 
 abbrev pub Told : Answer → Values → Type 0
 Told done v = v.number ≡ 0
-Told (starts g) v = (v.number ≡ 0) × (v.start ≡ g.start) × (v.count ≡ length g.path) × (v.path ≡ padded most_hops g.path)
+Told (starts g) v = (v.number ≡ 0) × (v.start ≡ g.start) × (v.count ≡ length g.path) × (v.path ≡ padded most_hops g.path) × (v.at ≡ 0)
 Told (lists rs) v = (v.number ≡ 0) × (v.ranges ≡ length rs)
 Told (shows x) v = (v.number ≡ 0) × (v.figure ≡ x)
-Told (refused r) v = v.number ≡ r.number
+Told (refused r) v = (v.number ≡ r.number) × (v.at ≡ r.at)
 
 abbrev pub NumbersTell : Type 0
 NumbersTell = (a : Answer) → Told a (values a)

@@ -20,7 +20,7 @@ use Rattle.listing.proofs.list_ranges.Goals.{After-start_granted-next, In-Some, 
 
 -- the first start is that of the choice
 first_is : (c : After-start_granted-next) → c.start_granted-next.result ≡ start_of (choice_of c.args.asked.now c.args.low.0 c.args.latest.0)
-first_is c = c.start_granted-next.ensures ∙ ap start_granted c.choose.ensures ∙ start_answered (choice_of c.args.asked.now c.args.low.0 c.args.latest.0)
+first_is c = c.start_granted-next.ensures ∙ ap start_granted c.first_start.ensures ∙ start_answered (choice_of c.args.asked.now c.args.low.0 c.args.latest.0)
 
 first_or : (c : After-start_granted-next) → minute_or (suc c.args.latest.0) c.start_granted-next.result ≡ start_or (suc c.args.latest.0) (choice_of c.args.asked.now c.args.low.0 c.args.latest.0)
 first_or c = ap (minute_or (suc c.args.latest.0)) (first_is c)

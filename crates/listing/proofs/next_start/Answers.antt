@@ -14,4 +14,4 @@ returns-then-lt c = sym (ap start_of (earliest_none (try_of c.args.asked.now) c.
 
 pub returns : goal.returns
 returns c =
-    c.start_granted.ensures ∙ ap start_granted c.choose_event.ensures ∙ start_answered (choice_of c.args.asked.now c.args.end.0 c.args.latest.0)
+    c.start_granted.ensures ∙ ap start_granted c.first_event.ensures ∙ start_answered (choice_of c.args.asked.now c.args.end.0 c.args.latest.0)
