@@ -13,7 +13,7 @@ use Rattle.choice.specs.Choice.{Grant}
 use Rattle.choice.specs.Right.{NowhereLower}
 use Rattle.choice.proofs.Theorems.{chosen_no_later}
 use Rattle.rules.specs.Plain.{Plain, span, terms, graph, free_for, low}
-use Rattle.rules.specs.Calls.{offer, cancel, ask, Answer, done, starts, refuse, request_checks, chosen, best, take_out}
+use Rattle.rules.specs.Calls.{offer, cancel, ask, Answer, done, starts, refuse, request_checks, breaks_off, chosen, best, take_out}
 use Rattle.rules.specs.Tables.{Tables, tables, held}
 use Rattle.rules.specs.Desk.{bandwidth_desk, left_by, outcome}
 use Rattle.rules.specs.Sound.{Obeys}
@@ -35,8 +35,8 @@ module _ (links : List Link) (p q : Plain) (r : Request) (window : low p r ≡ l
   best_no_later : (g : Grant) → best links p r ≡ starts g → StartsBy g.start (best links q r)
   unfolding best
   best_no_later g e =
-      let h = chosen_no_later (graph links) (free_for links p r) (free_for links q r) more r.bandwidth.0 (span p (terms r)) r.from r.to (low p r) r.latest.0 g (chosen_granted (choice links p r) g e) in
-      (h.0, ap chosen (sym (ap₂ (choice_by links r (free_for links q r)) minutes window) ∙ h.1), h.2)
+      let h = chosen_no_later (graph links) (free_for links p r) (free_for links q r) more r.bandwidth.0 (span p (terms r)) r.from r.to (low p r) r.latest.0 g (chosen_granted (breaks_off links p r) (choice links p r) g e) in
+      (h.0, ap (chosen (breaks_off links q r)) (sym (ap₂ (choice_by links r (free_for links q r)) minutes window) ∙ h.1), h.2)
 
 module _ (links : List Link) (t : Tables) (r : Request) (g : Grant) (offered : (outcome links t (ask (offer r))).answer ≡ starts g) where
   passed : Passed (all_checks bandwidth_desk links t (ask (offer r)))

@@ -5,6 +5,7 @@ use mathlib.Core.List.{List, [], ◌∷◌}
 use mathlib.Core.Bool.{and-eq-true_iff}
 use Prim.Native.Nat.{ℕ, zero, suc, ◌+◌, ◌-◌, ◌≤◌, ◌<◌}
 use native.Mathlib.Nat.{le_refl, le_of_eq}
+use native.Mathlib.Decide.{dec_lt}
 use native.Mathlib.Omega.{arith}
 use lib.Dec.{lit<, lit≤}
 use lib.ListN.{length}
@@ -15,13 +16,14 @@ use Rattle.units.specs.Lists.{member, sum, select, All}
 use Rattle.units.specs.Search.{first_from, all_from, any_below}
 use Rattle.path_search.specs.Paths.{reaches, lowest, fewest, route}
 use Rattle.choice.specs.Earliest.{can_start, earliest}
-use Rattle.rules.specs.Plain.{Plain, empty, taken}
-use Rattle.rules.specs.Calls.{book, Answer, done, refuse, checked, number_ok, request_ok, own_checks, best}
+use Rattle.choice.specs.BreakOff.{break_off}
+use Rattle.rules.specs.Plain.{Plain, empty, span, terms, taken, low}
+use Rattle.rules.specs.Calls.{book, Answer, done, refuse, no_start_at, checked, number_ok, request_ok, own_checks, breaks_off, best}
 use Rattle.histories.specs.Kinds as kinds
 use Rattle.rules.specs.Desk.{answer, outcome}
-use Rattle.rules.specs.Choosing.{Carries, PathAt}
+use Rattle.rules.specs.Choosing.{FreeIn, PathIn, Carries}
 use Rattle.rules.specs.Sound.{LinkRight}
-use Rattle.demands.specs.Examples.{start_at, session_links, Entry, Holds, request, only, fill, session, free_figure, free_figure_left, before_low, full_book, same_ends, guarded, last_figure, Examples}
+use Rattle.demands.specs.Examples.{start_at, session_links, Entry, Holds, request, only, fill, session, free_figure, free_figure_left, before_low, full_book, same_ends, guarded, last_figure, two_links, broken_off, Examples}
 use Rattle.rules.proofs.Checks.{passed_answer, passed_done}
 use Rattle.rules.proofs.Tests.{links_tell, RequestRight, request_right}
 use Rattle.rules.proofs.Choices.{best_right}
@@ -34,19 +36,23 @@ Replies e = (f : ℕ) → e.least ≤ f → f ≤ e.most → replies (e.links f)
 
 -- the entries without a variable, by computation
 session_replies : Replies session
-unfolding every_kind.replies kinds.answer checked best select member sum earliest can_start reaches lowest fewest route first_from all_from any_below
+unfolding every_kind.replies kinds.answer checked best breaks_off break_off select member sum earliest can_start reaches lowest fewest route first_from all_from any_below
 session_replies f a b = refl
 
 before_low_replies : Replies before_low
-unfolding every_kind.replies kinds.answer checked best select member sum earliest can_start reaches lowest fewest route first_from all_from any_below
+unfolding every_kind.replies kinds.answer checked best breaks_off break_off select member sum earliest can_start reaches lowest fewest route first_from all_from any_below
 before_low_replies f a b = refl
 
 full_book_replies : Replies full_book
-unfolding fill every_kind.replies kinds.answer checked best select member sum earliest can_start reaches lowest fewest route first_from all_from any_below
+unfolding fill every_kind.replies kinds.answer checked best breaks_off break_off select member sum earliest can_start reaches lowest fewest route first_from all_from any_below
 full_book_replies f a b = refl
 
+broken_off_replies : Replies broken_off
+unfolding every_kind.replies kinds.answer checked best breaks_off break_off select member sum earliest can_start reaches lowest fewest route first_from all_from any_below
+broken_off_replies f a b = refl
+
 guarded_replies : Replies guarded
-unfolding every_kind.replies kinds.answer checked best select member sum earliest can_start reaches lowest fewest route first_from all_from any_below
+unfolding every_kind.replies kinds.answer checked best breaks_off break_off select member sum earliest can_start reaches lowest fewest route first_from all_from any_below
 guarded_replies f a b = refl
 
 last_figure_replies : (guard : ℕ) → Replies (last_figure guard)
@@ -62,12 +68,12 @@ module _ (c n w t m : ℕ) (p : Plain) (right : All LinkRight (only c)) (passes 
   abbrev r : Request
   r = request 0 2 w t m m
 
-  only_path : (k : ℕ) (path : List ℕ) → PathAt (only c) p r k path → (path ≡ 0 ∷ []) × Carries (only c) p r k 0
-  only_path k [] x = absurd (omega arith)
-  only_path k (zero ∷ []) x = (refl, x.1.0)
-  only_path k (zero ∷ zero ∷ path) x = absurd (let h = x.0.2.1 in omega arith)
-  only_path k (zero ∷ suc l ∷ path) x = absurd (let h = x.0.2.0 in omega arith)
-  only_path k (suc l ∷ path) x = absurd (let h = x.0.0 in omega arith)
+  only_path : (k e : ℕ) (path : List ℕ) → PathIn (only c) p r k e path → (path ≡ 0 ∷ []) × FreeIn (only c) p r k e 0
+  only_path k e [] x = absurd (omega arith)
+  only_path k e (zero ∷ []) x = (refl, x.1.0)
+  only_path k e (zero ∷ zero ∷ path) x = absurd (let h = x.0.2.1 in omega arith)
+  only_path k e (zero ∷ suc l ∷ path) x = absurd (let h = x.0.2.0 in omega arith)
+  only_path k e (suc l ∷ path) x = absurd (let h = x.0.0 in omega arith)
 
   answer_is_best : answer (only c) p (book n r) ≡ best (only c) p r
   unfolding kinds.answer
@@ -78,18 +84,25 @@ module _ (c n w t m : ℕ) (p : Plain) (right : All LinkRight (only c)) (passes 
 
   -- it is accepted if the link has the bandwidth free
   fits_booked : Carries (only c) p r m 0 → answer (only c) p (book n r) ≡ start_at m (0 ∷ [])
-  fits_booked h = answer_is_best ∙ ((best_right (only c) p r right request_fits).start_iff (record { start = m; path = 0 ∷ [] })).1 (record {
+  fits_booked h = answer_is_best ∙ ((best_right (only c) p r right request_fits (omega arith)).start_iff (record { start = m; path = 0 ∷ [] })).1 (record {
     in_window = (omega arith, le_refl m);
     works = ((lit< tt, refl, refl), (h, tt));
     earliest = λ k other i x. let j = i.0 in omega arith;
-    fewest = λ other x. le_of_eq (ap length (sym (only_path m other x).0));
-    lowest = λ other x e. inl (only_path m other x).0;
+    fewest = λ other x. le_of_eq (ap length (sym (only_path m (m + span p (terms r)) other x).0));
+    lowest = λ other x e. inl (only_path m (m + span p (terms r)) other x).0;
   })
 
-  -- and refused 8 if not
-  unfit_refused : ¬ Carries (only c) p r m 0 → answer (only c) p (book n r) ≡ refuse 8
-  unfit_refused h = answer_is_best ∙ (best_right (only c) p r right request_fits).no_start_iff.1
-      (λ k path i x. let a = i.0 in let b = i.1 in let e : k ≡ m = omega arith in h (subst (λ j. Carries (only c) p r j 0) e (only_path k path x).1))
+  -- and refused 8 if it lacks it in that minute, where it then breaks off
+  unfit_refused : ¬ FreeIn (only c) p r m (suc m) 0 → answer (only c) p (book n r) ≡ no_start_at m
+  unfit_refused h =
+      let best_is = best_right (only c) p r right request_fits (omega arith) in
+      let none = best_is.no_start_iff.1 (λ k path i x. let a = i.0 in let b = i.1 in let e : k ≡ m = omega arith in h (λ j y z. (only_path k (k + span p (terms r)) path x).1 j (omega arith) (omega (arith, request_fits.duration_right.0)))) in
+      let breaks = best_is.breaks_off none.0 none.1 in
+      let at_low : none.0 ≡ m = elim (dec_lt m none.0) [
+        | yes later ↦ absurd (let w = breaks.lasts_before m (omega arith) later in h (λ j y z. (only_path (low p r) (suc m) w.0 w.1).1 j (omega arith) z))
+        | no later ↦ omega (arith, breaks.from_low)
+      ] in
+      answer_is_best ∙ none.1 ∙ ap no_start_at at_low
 
 only_right : (c : ℕ) → 1 ≤ c → c ≤ 1000000 → All LinkRight (only c)
 only_right c a b = (record { from_right = lit≤ tt; to_right = lit≤ tt; ends_differ = omega arith; capacity_right = (a, b) }, tt)
@@ -154,7 +167,10 @@ examples = (
               holds guarded (lit≤ tt) (λ f a b. only_right 4 (lit≤ tt) (lit≤ tt)) guarded_replies,
               (
                 holds (last_figure 0) (lit≤ tt) (λ f a b. only_right 4 (lit≤ tt) (lit≤ tt)) (last_figure_replies 0),
-                (holds (last_figure 15) (lit≤ tt) (λ f a b. only_right 4 (lit≤ tt) (lit≤ tt)) (last_figure_replies 15), tt),
+                (
+                  holds (last_figure 15) (lit≤ tt) (λ f a b. only_right 4 (lit≤ tt) (lit≤ tt)) (last_figure_replies 15),
+                  (holds broken_off (lit≤ tt) (λ f a b. (links_tell two_links).0 refl) broken_off_replies, tt),
+                ),
               ),
             ),
           ),

@@ -18,7 +18,7 @@ use Rattle.choice.specs.Choice.{Grant, Choice, granted, no_start, choose}
 use Rattle.histories.specs.Kinds as kinds
 use Rattle.histories.specs.Lawful.{Lawful}
 use Rattle.rules.specs.Plain.{Plain, graph, carries, low, free}
-use Rattle.rules.specs.Calls.{Ask, book, offer, list, cancel, move_clock, show, shows, refuse, own_checks, chosen, best, every, result, StartOr8, InForm}
+use Rattle.rules.specs.Calls.{Ask, book, offer, list, cancel, move_clock, show, shows, refuse, own_checks, breaks_off, chosen, best, every, result, StartOr8, InForm}
 use Rattle.rules.specs.Tables.{Tables, tables, same}
 use Rattle.rules.specs.Sound.{Obeys}
 use Rattle.rules.specs.Desk.{bandwidth_desk, Agree, answer}
@@ -28,14 +28,14 @@ use Rattle.rules.proofs.Tests.{same_tells}
 use Rattle.rules.proofs.Obeys.{tables_permuted, tables_sound}
 use Rattle.rules.proofs.Step.{set_up_passed, set_up_leaves, obeys_empty, answers_plain, leaves_plain, stays_obeyed}
 
-chosen_fits : (c : Choice Grant) → StartOr8 (chosen c)
-chosen_fits (granted g) = inl (g, refl)
-chosen_fits no_start = inr refl
+chosen_fits : (m : ℕ) (c : Choice Grant) → StartOr8 (chosen m c)
+chosen_fits m (granted g) = inl (g, refl)
+chosen_fits m no_start = inr (m, refl)
 
 -- the choice of a start is a start or 8
 best_fits : (links : List Link) (p : Plain) (r : Request) → StartOr8 (best links p r)
 unfolding best
-best_fits links p r = chosen_fits (choose (graph links) (carries links p r) r.from r.to (low p r) r.latest.0)
+best_fits links p r = chosen_fits (breaks_off links p r) (choose (graph links) (carries links p r) r.from r.to (low p r) r.latest.0)
 
 in_form : (links : List Link) (p : Plain) (a : Ask) → InForm a (result links p a)
 in_form links p (book n r) = best_fits links p r

@@ -21,8 +21,8 @@ use Rattle.choice.specs.Earliest.{is_granted, can_start, earliest}
 use Rattle.choice.specs.Choice.{Grant, grant_at, possible}
 use Rattle.listing.specs.Ranges.{Range, ranges_from, ranges}
 use Rattle.listing.proofs.Theorems.{Possible, listed_once, listed_no_other, ranges_apart, ranges_longest, AtStart, ranges_begin, ranges_fit, empty_iff, first_is_start}
-use Rattle.rules.specs.Plain.{Plain, graph, carries, low}
-use Rattle.rules.specs.Calls.{Ask, book, list, offer, set_up, ask, Answer, done, starts, lists, shows, refused, refuse, checked, chosen, best, every}
+use Rattle.rules.specs.Plain.{Plain, span, terms, graph, carries, low}
+use Rattle.rules.specs.Calls.{Ask, book, list, offer, set_up, ask, Answer, done, starts, lists, shows, refused, refuse, no_start_at, checked, breaks_off, chosen, best, every}
 use Rattle.rules.specs.Tables.{Tables, sized, held, events_of}
 use Rattle.rules.specs.Desk.{bandwidth_desk, outcome}
 use Rattle.rules.specs.Sound.{Obeys}
@@ -63,7 +63,7 @@ module _ (links : List Link) (p : Plain) (r : Request) (o : Obeys links p) (q : 
 
   -- what a link carries from m on it carries from an earlier minute on, if no time lies between
   back : (k m l : ℕ) → k ≤ m → NoneBetween (all_times p) k m → carries links p r m l ≡ true → carries links p r k l ≡ true
-  back k m l h n e = (carries_tells links p r q.bandwidth_right.0 k l).1 (carries_back links p r k m l h n ((carries_tells links p r q.bandwidth_right.0 m l).0 e))
+  back k m l h n e = (carries_tells links p r q.bandwidth_right.0 (span p (terms r)) k l).1 (carries_back links p r k m l h n ((carries_tells links p r q.bandwidth_right.0 (span p (terms r)) m l).0 e))
 
   pub every_right : RightListing links p r (every links p r)
   unfolding every
@@ -87,13 +87,13 @@ module _ (links : List Link) (p : Plain) (r : Request) (o : Obeys links p) (q : 
 -- ---- the listing and the offer
 
 module _ (links : List Link) (p : Plain) (r : Request) where
-  none_listed : (every links p r ≡ []) ↔ (best links p r ≡ refuse 8)
+  none_listed : (every links p r ≡ []) ↔ ((m : ℕ) × (best links p r ≡ no_start_at m))
   unfolding every best
-  none_listed = let i = empty_iff (graph links) (carries links p r) r.from r.to (low p r) r.latest.0 in ((λ e. ap chosen (i.0 e)), λ e. i.1 (chosen_none (choice links p r) e))
+  none_listed = let i = empty_iff (graph links) (carries links p r) r.from r.to (low p r) r.latest.0 in ((λ e. (breaks_off links p r, ap (chosen (breaks_off links p r)) (i.0 e))), λ e. i.1 (chosen_none (breaks_off links p r) (choice links p r) e.1))
 
   first_listed : (x : Range) (rs : List Range) (g : Grant) → every links p r ≡ x ∷ rs → best links p r ≡ starts g → x.first ≡ g.start
   unfolding every best
-  first_listed x rs g e b = first_is_start (graph links) (carries links p r) r.from r.to (low p r) r.latest.0 x rs e g (chosen_granted (choice links p r) g b)
+  first_listed x rs g e b = first_is_start (graph links) (carries links p r) r.from r.to (low p r) r.latest.0 x rs e g (chosen_granted (breaks_off links p r) (choice links p r) g b)
 
 -- ---- the answers
 
@@ -128,8 +128,8 @@ pub every_start : EveryStart outcome
 every_start = record {
   listing = λ links t n r h. (every links (held t) r, list_answer links t n r h, every_right links (held t) r (obeyed links t n r h) (asked links t n r h));
   empty_iff = λ links t n r h. (
-    (λ e. offer_answer links t n r h ∙ (none_listed links (held t) r).0 (ap listed_in (sym (list_answer links t n r h) ∙ e))),
-    λ e. list_answer links t n r h ∙ ap lists ((none_listed links (held t) r).1 (sym (offer_answer links t n r h) ∙ e)),
+    (λ e. let none = (none_listed links (held t) r).0 (ap listed_in (sym (list_answer links t n r h) ∙ e)) in (none.0, offer_answer links t n r h ∙ none.1)),
+    λ e. list_answer links t n r h ∙ ap lists ((none_listed links (held t) r).1 (e.0, sym (offer_answer links t n r h) ∙ e.1)),
   );
   first_is = λ links t n r h x rs e g f. first_listed links (held t) r x rs g (ap listed_in (sym (list_answer links t n r h) ∙ e)) (sym (offer_answer links t n r h) ∙ f);
 }

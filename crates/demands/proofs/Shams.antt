@@ -1,12 +1,13 @@
 -- The buyer's five sham desks, each refuted by the demand that is to exclude it, one that lists starts wrongly, two that answer an
--- offer wrongly after a cancellation, three that answer an accepted call in another call's form, and one that takes every guard for none.
+-- offer wrongly after a cancellation, three that answer an accepted call in another call's form, one that takes every guard for none,
+-- two that say a wrong minute beside 8 and one that says a minute beside another refusal.
 -- All but the calls named they do properly.
-use mathlib.Core.Path.{◌≡◌, refl, sym, subst}
+use mathlib.Core.Path.{◌≡◌, refl, sym, ap, subst}
 use mathlib.Core.Logic.{⊎_elim}
 use mathlib.Core.List.Memᴰ
 use mathlib.Core.List.{List, [], ◌∷◌, flatten}
 use mathlib.Core.Bool.{Bool, true, false, ◌&&◌}
-use Prim.Native.Nat.{ℕ, suc, ◌+◌, ◌≤◌, ◌<◌}
+use Prim.Native.Nat.{ℕ, zero, suc, ◌+◌, ◌≤◌, ◌<◌}
 use native.Mathlib.Omega.{arith}
 use lib.Dec.{lit<, lit≤, leb, eqb, ltb}
 use lib.ListN.{length}
@@ -17,16 +18,18 @@ use Rattle.units.specs.Search.{first_from, all_from, any_below}
 use Rattle.timeline.specs.Events.{insert_rising, later, passed, row_at}
 use Rattle.path_search.specs.Paths.{reaches, lowest, fewest, route, goes_on}
 use Rattle.choice.specs.Earliest.{can_start, earliest}
+use Rattle.choice.specs.BreakOff.{break_off}
 use Rattle.listing.specs.Ranges.{Range, ranges_from, ranges}
 use Rattle.listing.specs.Right.{Apart}
-use Rattle.rules.specs.Plain.{Booking, empty, terms}
-use Rattle.rules.specs.Calls.{Ask, book, offer, list, cancel, move_clock, show, Call, set_up, set_up_with, ask, Answer, done, starts, lists, shows, refused, refuse, checked, best, every, put_in, on_done, on_start}
+use Rattle.rules.specs.Plain.{Booking, empty, terms, capacity, low}
+use Rattle.rules.specs.Calls.{Ask, book, offer, list, cancel, move_clock, show, Call, set_up, set_up_with, ask, Answer, done, starts, lists, shows, refused, refuse, no_start_at, Values, values, checked, best, breaks_off, every, put_in, on_done, on_start}
 use Rattle.plain_book.specs.Bookings as bookings
-use Rattle.rules.specs.Tables.{Tables, sized, tables, sound_with, sound}
+use Rattle.rules.specs.Tables.{Tables, sized, tables, held, sound_with, sound}
+use Rattle.rules.specs.Choosing.{PathIn}
 use Rattle.rules.specs.Desk.{Outcome, bandwidth_desk, outcome}
 use Rattle.histories.specs.Kinds as kinds
 use Rattle.histories.specs.Histories.{answers, left, counted}
-use Rattle.histories.specs.Demands.{Moment, now, plain}
+use Rattle.histories.specs.Demands.{Stopped, Moment, now, plain}
 use Rattle.demands.specs.Demands.{Desk, Demand1, Demand2, Demand3, Passes}
 use Rattle.demands.specs.Listing.{EveryStart}
 use Rattle.demands.specs.Cancelling.{StartsBy, CancellingHarmless}
@@ -132,7 +135,7 @@ first_passes = refl
 
 pub not_says_8 : ¬ Demand2 (desk_of says_8)
 unfolding tables count_from sum
-not_says_8 d = (d.offering session_links fresh first first_passes).no_start_iff.0 refl 0 (2 ∷ []) (lit≤ tt, lit≤ tt) ((lit< tt, refl, refl), ((λ k a b. lit≤ tt), tt))
+not_says_8 d = (d.offering session_links fresh first first_passes).no_start_iff.0 (0, refl) 0 (2 ∷ []) (lit≤ tt, lit≤ tt) ((lit< tt, refl, refl), ((λ k a b. lit≤ tt), tt))
 
 pub not_always_0 : ¬ Demand2 (desk_of always_0)
 not_always_0 d = let link_0_leads_to_2 : ◌≡◌ {A = ℕ} 1 2 = (((d.offering session_links fresh first first_passes).start_iff (record { start = 0; path = 0 ∷ [] })).0 refl).works.0.2 in omega arith
@@ -278,3 +281,94 @@ not_unguarded_apart d =
   where
     booked : ℕ → ℕ → Booking
     booked number start = record { number = number; terms = terms first; grant = record { start = start; path = 2 ∷ [] } }
+
+-- 12. says the minute that f makes of an offer's low and of the one at which it breaks off
+abbrev beside_8 : (ℕ → ℕ) → Answer → Answer
+beside_8 f done = done
+beside_8 f (starts g) = starts g
+beside_8 f (lists rs) = lists rs
+beside_8 f (shows x) = shows x
+beside_8 f (refused k) = elim (eqb k.number 8) [ true ↦ no_start_at (f k.at) | false ↦ refused k ]
+
+abbrev minute_said : (ℕ → ℕ → ℕ) → Desk
+minute_said f links t (set_up_with s) = outcome links t (set_up_with s)
+minute_said f links t (ask (offer r)) = says (beside_8 (f (low (held t) r)) (outcome links t (ask (offer r))).answer) t
+minute_said f links t (ask (book n r)) = outcome links t (ask (book n r))
+minute_said f links t (ask (list n r)) = outcome links t (ask (list n r))
+minute_said f links t (ask (cancel n)) = outcome links t (ask (cancel n))
+minute_said f links t (ask (move_clock m)) = outcome links t (ask (move_clock m))
+minute_said f links t (ask (show l m)) = outcome links t (ask (show l m))
+
+-- low always
+abbrev low_always : ℕ → ℕ → ℕ
+low_always least m = least
+
+-- one late
+abbrev one_late : ℕ → ℕ → ℕ
+one_late least m = suc m
+
+-- link 0, the only one from node 0 to node 1, is sold full in minutes 3 and 4, and an offer of five minutes from 0 on breaks off at 3
+abbrev sold_at_3 : Tables
+sold_at_3 = tables session_links (put_in (record { number = 7; terms = record { duration = 2; bandwidth = 10 }; grant = record { start = 3; path = 0 ∷ [] } }) (empty 0))
+
+abbrev five_minutes : Request
+five_minutes = request 0 1 1 5 0 0
+
+five_pass : Passes session_links sold_at_3 (ask (offer five_minutes))
+unfolding checked member sum sound sound_with tables later insert_rising flatten count_from bookings.by_number bookings.insert_by_number goes_on rising equal all_from any_below
+five_pass = refl
+
+pub not_low_always : ¬ Demand2 (minute_said low_always)
+unfolding kinds.outcome kinds.answer_on kinds.answer checked best breaks_off break_off member sum earliest can_start route fewest lowest reaches first_from all_from any_below row_at passed sound sound_with tables later insert_rising flatten count_from bookings.by_number bookings.insert_by_number goes_on rising equal
+not_low_always d =
+    let b = (d.offering session_links sold_at_3 five_minutes five_pass).breaks_off 0 refl in
+    b.none_lasts (0 ∷ []) ((lit< tt, refl, refl), ((λ k x y. let e : k ≡ 0 = omega arith in rw e (lit≤ tt)), tt))
+
+-- more than any link has
+abbrev too_much : Request
+too_much = request 0 1 11 1 0 0
+
+much_passes : Passes session_links fresh (ask (offer too_much))
+unfolding checked sound sound_with tables later flatten count_from bookings.by_number rising equal sum all_from
+much_passes = refl
+
+no_link_has_11 : (l : ℕ) → capacity session_links l ≤ 10
+no_link_has_11 zero = lit≤ tt
+no_link_has_11 (suc zero) = lit≤ tt
+no_link_has_11 (suc (suc zero)) = lit≤ tt
+no_link_has_11 (suc (suc (suc l))) = lit≤ tt
+
+pub not_one_late : ¬ Demand2 (minute_said one_late)
+unfolding kinds.outcome kinds.answer_on kinds.answer checked best breaks_off break_off member sum earliest can_start route fewest lowest reaches first_from all_from any_below row_at passed sound sound_with tables later flatten count_from bookings.by_number rising equal
+not_one_late d =
+    let b = (d.offering session_links fresh too_much much_passes).breaks_off 1 refl in
+    let w = b.lasts_before 0 (lit≤ tt) (lit< tt) in
+    none w.0 w.1
+  where
+    none : (path : List ℕ) → PathIn session_links (held fresh) too_much 0 1 path → ⊥
+    none [] x = let z : ◌≡◌ {A = ℕ} 0 1 = x.0 in omega arith
+    none (l ∷ path) x = let h = x.1.0 0 (lit≤ tt) (lit< tt) in omega (arith, no_link_has_11 l)
+
+-- 13. says minute 1 beside a refusal of an offer that isn't 8
+abbrev beside_others : Answer → Answer
+beside_others done = done
+beside_others (starts g) = starts g
+beside_others (lists rs) = lists rs
+beside_others (shows x) = shows x
+beside_others (refused k) = elim (eqb k.number 8) [ true ↦ refused k | false ↦ refused (record { number = k.number; at = 1 }) ]
+
+abbrev minute_beside : Sham
+minute_beside proper t a = by_kind a proper (says (beside_others proper.answer) proper.tables) proper proper proper
+
+abbrev same_nodes : Request
+same_nodes = request 0 0 1 1 0 0
+
+stopped_4 : Stopped bandwidth_desk session_links fresh (ask (offer same_nodes)) 4
+unfolding checked sound sound_with tables later flatten count_from bookings.by_number rising equal sum all_from
+stopped_4 = refl
+
+pub not_minute_beside : ¬ Demand1 (desk_of minute_beside)
+unfolding kinds.outcome kinds.answer_on kinds.answer checked sound sound_with tables later flatten count_from bookings.by_number rising equal sum all_from
+not_minute_beside d =
+    let one : ◌≡◌ {A = ℕ} 1 0 = ap (λ (v : Values). v.at) (ap values (d.stopped session_links fresh (ask (offer same_nodes)) 4 stopped_4)) in
+    omega arith
