@@ -2,15 +2,16 @@
 use mathlib.Core.List.{List}
 use mathlib.Core.Path.{◌≡◌, refl, sym, ◌∙◌, ap, ap₂}
 use Prim.Native.Nat.{ℕ, ◌≤◌, ◌<◌}
+use native.Mathlib.Nat.{le_refl}
 use native.Mathlib.Omega.{arith}
 use lib.ListN.{length, get_or}
 use Rattle.std.proofs.Common.{Ok, Err}
-use Rattle.std.proofs.Common.{Ok, Err}
-use Rattle.units.specs.declared.Refusal.{Refusal}
+use Rattle.units.specs.declared.Refused.{Refused}
 use Rattle.units.specs.declared.Request.{Request}
 use Rattle.units.specs.Limits.{most_links, most_events}
 use Rattle.units.specs.Lists.{padded}
 use Rattle.units.specs.Spans.{span_of}
+use Rattle.free_table.specs.Figures.{kept}
 use Rattle.free_table.specs.Looking.{TablesSized}
 use Rattle.path_search.specs.Ends.{InRange}
 use Rattle.path_search.specs.Answer as search
@@ -19,6 +20,8 @@ use Rattle.choice.specs.declared.Granted.{Granted}
 use Rattle.choice.specs.Choice.{Grant, Choice, granted, no_start, choose}
 use Rattle.choice.specs.EventTables.{clock_of}
 use Rattle.choice.specs.Answer as answers
+use Rattle.choice.specs.Carrying.{carries as carries_by}
+use Rattle.choice.proofs.BreakOff.{break_off_agree}
 use Rattle.choice.proofs.Figures.{choose_agree, carries_shown}
 use Rattle.choice.proofs.Answers.{started, none_started}
 use Rattle.choice.proofs.EventTables.{are_events}
@@ -27,8 +30,8 @@ use Rattle.listing.proofs.Laws.{ranges_agree}
 use Rattle.units.specs.declared.Link.{Link}
 use Rattle.units.specs.Columns.{column}
 use Rattle.units.proofs.Columns.{column_at}
-use Rattle.rules.specs.Plain.{no_link, link, graph, free, carries, low}
-use Rattle.rules.specs.Calls.{starts, refuse, best, every, chosen as desk_chosen}
+use Rattle.rules.specs.Plain.{no_link, link, graph, free, carries_in, carries, low}
+use Rattle.rules.specs.Calls.{starts, no_start_at, breaks_off, best, every, chosen as desk_chosen}
 use Rattle.rules.specs.Tables.{Tables, events_of, held, Fine}
 use Rattle.starts.specs.Asked.{begins, ends, ends_of, search_of, Asks}
 use Rattle.rules.proofs.Uses.{all_times, free_changes}
@@ -65,34 +68,52 @@ module _ (links : List Link) (t : Tables) (f : Fine links t) where
       lasts = omega (arith, q.duration_right.0);
       are_events = are_events t.events t.head.clock.0 (all_times (held t)) shown_events;
       askable = record { not_past = omega (arith, ap clock_of shown_events); in_time = omega (arith, q.duration_right.1, q.latest_right, (book_obeys f).guard_right) };
+      low_in_time = omega (arith, q.duration_right.1, q.earliest_right, (book_obeys f).clock_right, (book_obeys f).guard_right);
     }
 
     -- the choice by the tables, as the chooser promises it
     abbrev pub by_tables : Choice Grant
     by_tables = answers.choice_for (search_of t.head links r) t.events t.free (low (held t) r) r.latest.0
 
+    -- where every path from low on breaks off, by the tables
+    abbrev pub broken_by_tables : ℕ
+    broken_by_tables = answers.break_off_for (search_of t.head links r) t.events t.free (low (held t) r)
+
     -- the choice by the plain book
     abbrev pub by_book : Choice Grant
     by_book = choose (graph links) (carries links (held t) r) r.from r.to (low (held t) r) r.latest.0
 
-    -- the links, and what they carry from low on, are the same
-    agree : (m : ℕ) → low (held t) r ≤ m → m ≤ r.latest.0
-        → Agree (ends_of links) (graph links) (answers.carried (search_of t.head links r) t.events t.free m) (carries links (held t) r m)
-    agree m a b = record {
+    -- the links, and what they carry in n minutes from low on, are the same
+    agree_in : (n m : ℕ) → low (held t) r ≤ m
+        → Agree (ends_of links) (graph links) (carries_by (kept t.events t.free) r.bandwidth.0 n m) (carries_in links (held t) r n m)
+    agree_in n m a = record {
       count = refl;
       from = λ l h. field (λ x. x.from) l h;
       to = λ l h. field (λ x. x.to) l h;
-      usable = λ l h. usable_same m l (omega arith) h;
+      usable = λ l h. usable_same n m l (omega arith) h;
     }
       where
-        usable_same : (m l : ℕ) → t.head.clock.0 ≤ m → l < length links → answers.carried (search_of t.head links r) t.events t.free m l ≡ carries links (held t) r m l
-        usable_same m l a h =
-            ap₂ (λ es fr. answers.carried (search_of t.head links r) es fr m l) (events_are f) (free_are f)
-            ∙ carries_shown most_events (length links) (free links (held t)) (sizes f).links_right.1 t.head.clock.0 (all_times (held t)) (λ k j. free_changes links (held t) k) r.bandwidth.0 (span_of t.head r.duration.0) m l a h
+        usable_same : (n m l : ℕ) → t.head.clock.0 ≤ m → l < length links → carries_by (kept t.events t.free) r.bandwidth.0 n m l ≡ carries_in links (held t) r n m l
+        usable_same n m l a h =
+            ap₂ (λ es fr. carries_by (kept es fr) r.bandwidth.0 n m l) (events_are f) (free_are f)
+            ∙ carries_shown most_events (length links) (free links (held t)) (sizes f).links_right.1 t.head.clock.0 (all_times (held t)) (λ k j. free_changes links (held t) k) r.bandwidth.0 n m l a h
+
+    agree : (m : ℕ) → low (held t) r ≤ m → m ≤ r.latest.0
+        → Agree (ends_of links) (graph links) (answers.carried (search_of t.head links r) t.events t.free m) (carries links (held t) r m)
+    agree m a b = agree_in (span_of t.head r.duration.0) m a
 
     pub same_choice : by_tables ≡ by_book
     same_choice =
         choose_agree (ends_of links) (graph links) (answers.carried (search_of t.head links r) t.events t.free) (carries links (held t) r) r.from r.to (low (held t) r) r.latest.0 agree
+
+    same_break_off : broken_by_tables ≡ breaks_off links (held t) r
+    unfolding breaks_off
+    same_break_off =
+        break_off_agree (ends_of links) (graph links) (carries_by (kept t.events t.free) r.bandwidth.0) (carries_in links (held t) r) r.from r.to (span_of t.head r.duration.0) (low (held t) r) (λ n a b. agree_in n (low (held t) r) (le_refl (low (held t) r)))
+
+    -- the answer by the tables is that by the plain book
+    pub same_answer : answers.chosen broken_by_tables by_tables ≡ answers.chosen (breaks_off links (held t) r) by_book
+    same_answer = ap₂ answers.chosen same_break_off same_choice
 
     -- the ranges by the tables are those by the plain book
     pub same_ranges : ranges_for (search_of t.head links r) t.events t.free (low (held t) r) r.latest.0 ≡ every links (held t) r
@@ -106,19 +127,19 @@ module _ (links : List Link) (t : Tables) (f : Fine links t) where
       pub is_best : by_book ≡ granted grant
       pub given_is : given ≡ record { start = record { 0 = grant.start }; path = search.path_of grant.path }
 
-    pub chosen_start : (given : Granted) → Ok given ≡ answers.chosen by_tables → Started given
+    pub chosen_start : (given : Granted) → Ok given ≡ answers.chosen broken_by_tables by_tables → Started given
     chosen_start given e =
-        let w = started by_tables given e in
+        let w = started broken_by_tables by_tables given e in
         record { grant = w.grant; is_best = sym same_choice ∙ w.is_granted; given_is = w.given_is }
 
-    pub chosen_none : (k : Refusal) → Err k ≡ answers.chosen by_tables → by_book ≡ no_start
-    chosen_none k e = sym same_choice ∙ none_started by_tables k e
+    pub chosen_none : (k : Refused) → Err k ≡ answers.chosen broken_by_tables by_tables → by_book ≡ no_start
+    chosen_none k e = sym same_choice ∙ none_started broken_by_tables by_tables k e
 
     -- what the plain book answers then
     pub best_starts : (g : Grant) → by_book ≡ granted g → best links (held t) r ≡ starts g
     unfolding best
-    best_starts g e = ap desk_chosen e
+    best_starts g e = ap (desk_chosen (breaks_off links (held t) r)) e
 
-    pub best_none : by_book ≡ no_start → best links (held t) r ≡ refuse 8
+    pub best_none : by_book ≡ no_start → best links (held t) r ≡ no_start_at (breaks_off links (held t) r)
     unfolding best
-    best_none e = ap desk_chosen e
+    best_none e = ap (desk_chosen (breaks_off links (held t) r)) e
