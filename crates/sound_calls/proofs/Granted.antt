@@ -7,7 +7,7 @@ use Prim.Native.Nat.{ℕ, ◌-◌, ◌≤◌, ◌<◌}
 use lib.ListN.{length, take, replicate}
 use lib.Seq.{take-append_seam}
 use Rattle.std.proofs.Common.{Result}
-use Rattle.units.specs.declared.Refusal.{Refusal}
+use Rattle.units.specs.declared.Refused.{Refused}
 use Rattle.units.specs.declared.Request.{Request}
 use Rattle.units.specs.Limits.{most_hops, most_bookings, last_number}
 use Rattle.units.specs.Lists.{Within}
@@ -18,12 +18,12 @@ use Rattle.choice.specs.Answer as answers
 use Rattle.units.specs.declared.Link.{Link}
 use Rattle.rules.specs.Plain.{Booking, terms}
 use Rattle.choice.specs.Choice.{Grant, Choice, granted, no_start}
-use Rattle.rules.specs.Calls.{Ask, stands, number_ok, request_ok, own_checks, chosen, best}
+use Rattle.rules.specs.Calls.{Ask, stands, number_ok, request_ok, own_checks, breaks_off, chosen, best}
 use Rattle.sound_calls.specs.Lent.{choice_shown}
 use Rattle.rules.specs.Tables.{Tables, held, Fine}
 use Rattle.units.specs.Spans.{low_of}
 use Rattle.starts.specs.Asked.{search_of}
-use Rattle.starts.proofs.BestStart.{Started, by_tables, by_book, same_choice}
+use Rattle.starts.proofs.BestStart.{Started, by_tables, broken_by_tables, by_book, same_answer}
 use Rattle.changes.specs.Updating.{booked, Grantable}
 use Rattle.rules.proofs.Checks.{Passed}
 use Rattle.rules.proofs.Choices.{GoodGrant, good_best}
@@ -32,21 +32,23 @@ use Rattle.rules.proofs.Tests.{RequestRight}
 use Rattle.rules.proofs.Fine.{book_obeys}
 
 -- the choice on tables that are read is the choice on the desk's
-pub found_best : {l links : List Link} {s t : Tables} {a : Result Granted Refusal} → l ≡ links → s ≡ t → (r : Request)
-    → a ≡ answers.chosen (answers.choice_for (search_of s.head l r) s.events s.free (low_of s.head r) r.latest.0)
-    → a ≡ answers.chosen (answers.choice_for (search_of t.head links r) t.events t.free (low_of t.head r) r.latest.0)
-found_best same_links same_tables r e = e ∙ ap₂ (λ l t. answers.chosen (answers.choice_for (search_of t.head l r) t.events t.free (low_of t.head r) r.latest.0)) same_links same_tables
+abbrev chosen_on : List Link → Tables → Request → Result Granted Refused
+chosen_on links t r =
+    answers.chosen (answers.break_off_for (search_of t.head links r) t.events t.free (low_of t.head r)) (answers.choice_for (search_of t.head links r) t.events t.free (low_of t.head r) r.latest.0)
+
+pub found_best : {l links : List Link} {s t : Tables} {a : Result Granted Refused} → l ≡ links → s ≡ t → (r : Request) → a ≡ chosen_on l s r → a ≡ chosen_on links t r
+found_best same_links same_tables r e = e ∙ ap₂ (λ l t. chosen_on l t r) same_links same_tables
 
 -- a choice as it is handed out, by the chooser and by document 01's values
-shown_same : (c : Choice Grant) → answers.values (answers.chosen c) ≡ choice_shown (chosen c)
-shown_same (granted g) = refl
-shown_same no_start = refl
+shown_same : (m : ℕ) (c : Choice Grant) → answers.values (answers.chosen m c) ≡ choice_shown (chosen m c)
+shown_same m (granted g) = refl
+shown_same m no_start = refl
 
 module _ (links : List Link) (t : Tables) (f : Fine links t) (r : Request) (q : RequestRight r) where
   -- what the chooser answers is the plain book's best start, or its refusal
-  pub answered : (a : Result Granted Refusal) → a ≡ answers.chosen (by_tables links t f r q) → answers.values a ≡ choice_shown (best links (held t) r)
+  pub answered : (a : Result Granted Refused) → a ≡ answers.chosen (broken_by_tables links t f r q) (by_tables links t f r q) → answers.values a ≡ choice_shown (best links (held t) r)
   unfolding best
-  answered a e = ap answers.values (e ∙ ap answers.chosen (same_choice links t f r q)) ∙ shown_same (by_book links t f r q)
+  answered a e = ap answers.values (e ∙ same_answer links t f r q) ∙ shown_same (breaks_off links (held t) r) (by_book links t f r q)
 
   -- the booking that is entered is the one of the grant
   module _ (number : ℕ) (given : Granted) (s : Started links t f r q given) where

@@ -5,7 +5,7 @@ use borrow.Author.Rules.{rules}
 use Rattle.std.proofs.Common.{Err}
 use Rattle.units.specs.Refusals.{number}
 use Rattle.choice.specs.Answer.{values}
-use Rattle.rules.specs.Calls.{Ask, ask, starts, refuse, own_checks, number_ok, request_ok, put_in}
+use Rattle.rules.specs.Calls.{Ask, ask, starts, refuse, no_start_at, breaks_off, own_checks, number_ok, request_ok, put_in}
 use Rattle.rules.specs.Tables.{held, tables}
 use Rattle.rules.proofs.Checks.{Passed}
 use Rattle.rules.proofs.Tests.{RequestRight, request_right}
@@ -88,7 +88,7 @@ returns-in_err-granted-clause-tables c =
     let read = c.tables-tables.ensures in
     let w = (goal.at.returns-in_err-granted-clause-tables c).In_ok-check_booking in
     let none = chosen_none links t c.requires r (right w) _ (found_best read.links read.tables r c.in_err-granted.ensures) in
-    handed_tables links t (ask a) _ (goes_on links t c.requires a refl (own w) (refuse 8) (best_none links t c.requires r (right w) none)) refl
+    handed_tables links t (ask a) _ (goes_on links t c.requires a refl (own w) (no_start_at (breaks_off links (held t) r)) (best_none links t c.requires r (right w) none)) refl
 
 pub enter-requires-clause-grantable : goal.enter-requires-clause-grantable
 enter-requires-clause-grantable c =
