@@ -21,7 +21,7 @@ use Rattle.layout.specs.Records.{order_read}
 use Rattle.layout.specs.Values.{request_of}
 use Rattle.rules.specs.Plain.{Plain, low, graph, carries}
 use Rattle.histories.specs.Kinds as kinds
-use Rattle.rules.specs.Calls.{Ask, book, offer, list, cancel, move_clock, show, ask, Answer, refuse, values, Check, check, checked, own_checks, chosen, best, result}
+use Rattle.rules.specs.Calls.{Ask, book, offer, list, cancel, move_clock, show, ask, Answer, refuse, values, Check, check, checked, own_checks, breaks_off, chosen, best, result}
 use Rattle.rules.specs.Tables.{Tables, held, table_checks}
 use Rattle.rules.specs.Desk.{answer, outcome}
 use Rattle.orders.specs.Ordered.{by_reading, answered, ordered}
@@ -40,15 +40,15 @@ route_short g usable target v path e = by (fewest g usable target v) refl e
         omega (arith, ap length same, lowest_length g usable target n v r.passes, r.high)
     by nothing h e = absurd (let y : ◌≡◌ {A = ℕ} 0 1 = cc in omega arith)
 
-choose_short : (g : Graph) (carries : ℕ → ℕ → Bool) (from to low latest : ℕ) → Short (chosen (choose g carries from to low latest))
+choose_short : (m : ℕ) (g : Graph) (carries : ℕ → ℕ → Bool) (from to low latest : ℕ) → Short (chosen m (choose g carries from to low latest))
 unfolding earliest
-choose_short g carries from to low latest = by (first_from low _ (possible g carries from to))
+choose_short b g carries from to low latest = by (first_from low _ (possible g carries from to))
   where
-    along_short : (m : ℕ) (r : Route) → route_at g carries from to m ≡ r → Short (chosen (grant_at m r))
+    along_short : (m : ℕ) (r : Route) → route_at g carries from to m ≡ r → Short (chosen b (grant_at m r))
     along_short m (along path) e = route_short g (carries m) to from path e
     along_short m none e = omega arith
 
-    by : (f : Found) → Short (chosen (choice_at (try_at g carries from to) f))
+    by : (f : Found) → Short (chosen b (choice_at (try_at g carries from to) f))
     by (at m) = along_short m (route_at g carries from to m) refl
     by nothing = omega arith
 
@@ -60,8 +60,8 @@ checked_short (check k false ∷ cs) a h = omega arith
 
 result_short : (links : List Link) (p : Plain) (a : Ask) → Short (result links p a)
 unfolding best
-result_short links p (book n r) = choose_short (graph links) (carries links p r) r.from r.to (low p r) r.latest.0
-result_short links p (offer r) = choose_short (graph links) (carries links p r) r.from r.to (low p r) r.latest.0
+result_short links p (book n r) = choose_short (breaks_off links p r) (graph links) (carries links p r) r.from r.to (low p r) r.latest.0
+result_short links p (offer r) = choose_short (breaks_off links p r) (graph links) (carries links p r) r.from r.to (low p r) r.latest.0
 result_short links p (list n r) = omega arith
 result_short links p (cancel n) = omega arith
 result_short links p (move_clock m) = omega arith

@@ -43,7 +43,7 @@ impl From<Refused> for Answered {
 }
 
 // What the order that the bytes hold is answered, or why it is refused: 12 and 11 where they cannot be read.
-#[tactic(auto, unfolding(crate::specs::Ordered::ordered, crate::specs::Ordered::answered, sound_calls::specs::Lent::tables_after, sound_calls::specs::Lent::refusal_answer, sound_calls::specs::Lent::choice_answer, histories::specs::Kinds::outcome))]
+#[tactic(auto, unfolding(crate::specs::Ordered::ordered, crate::specs::Ordered::answered, sound_calls::specs::Lent::tables_after, sound_calls::specs::Lent::refusal_answer, sound_calls::specs::Lent::choice_answer, histories::specs::Kinds::outcome), using(crate::proofs::Minutes::cancel_without, crate::proofs::Minutes::clock_without))]
 fn carry_out(bytes: &[u8], desk: &mut Desk<'_>) -> Result<Answered, Refused>
     requires fine { Fine desk.old.links.now (tables_of desk.old) }
     ensures loans { SameLoans desk.old desk.new }

@@ -11,7 +11,7 @@ use Rattle.std.proofs.lemmas.Fmt.{length-decimal-le}
 use Rattle.units.specs.Limits.{most_hops}
 use Rattle.units.specs.declared.Minute.{Minute}
 use Rattle.report.specs.declared.Report.{Report}
-use Rattle.report.specs.declared.Report.TheVariants.{DeskLinks, DeskRefused, Booked, Offered, Cancelled, Clock, Refused}
+use Rattle.report.specs.declared.Report.TheVariants.{DeskLinks, DeskRefused, Booked, Offered, Cancelled, Clock, Refused, RefusedAt}
 use Rattle.report.specs.Decimal.{decimal}
 use Rattle.report.specs.Line.{numbers, route, answer, max_line}
 use Rattle.report.proofs.Decimals.{as_printed}
@@ -47,3 +47,6 @@ module _ (place : ℕ) (links : List ℕ) (p : place < 2 ^ 64) (f : (i : ℕ) �
   answer_fits (Cancelled number) vs g = simp length-append (omega (arith, twenty place p, ten number (owed the_type the_laws (Cancelled number) vs g).0.1))
   answer_fits (Clock minute) vs g = simp length-append (omega (arith, twenty place p, ten minute.0 (owed the_type the_laws (Clock minute) vs g).0.1.1.0.1))
   answer_fits (Refused refusal) vs g = simp length-append (omega (arith, twenty place p, ten refusal (owed the_type the_laws (Refused refusal) vs g).0.1))
+  answer_fits (RefusedAt refusal minute) vs g =
+      let q = owed the_type the_laws (RefusedAt refusal minute) vs g in
+      simp length-append (omega (arith, twenty place p, ten refusal q.0.1, ten minute.0 q.1.0.1.1.0.1))
