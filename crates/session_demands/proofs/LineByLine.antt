@@ -14,6 +14,7 @@ use Rattle.std.proofs.lemmas.List.{take_all, drop_all}
 use Rattle.units.specs.declared.Link.{Link}
 use Rattle.units.specs.declared.Minute.{Minute}
 use Rattle.units.specs.declared.Refusal.{Refusal}
+use Rattle.units.specs.Refusals.{number, no_start}
 use Rattle.units.specs.Lists.{Within, all, All}
 use Rattle.units.proofs.Tests.{all_tells, differs}
 use Rattle.units.proofs.Parts.{all_map}
@@ -29,7 +30,7 @@ use Rattle.report.proofs.Decimals.{only_digits}
 use Rattle.rules.specs.Calls.{Values}
 use Rattle.rules.specs.Tables.{Tables}
 use Rattle.opening.specs.Opened.{first_byte, first_size, opened}
-use Rattle.orders.specs.Ordered.{answered as answered_order, by_reading, ordered, accepted, line_of}
+use Rattle.orders.specs.Ordered.{answered as answered_order, by_reading, ordered, accepted, refused as refusal_report, line_of}
 use Rattle.session.specs.Session.{Running, answered, lines, last_piece, orders, blank, started, session}
 use Rattle.session_demands.specs.Cutting.{AtBorder, reached, LineAt, LineByLine}
 use Rattle.session.proofs.Orders.{after_place, orders_short, orders_first, orders_front}
@@ -70,6 +71,20 @@ module _ (place : ℕ) (links : List ℕ) where
   unfolding answer line
   refused_line k = ended place (codes "refused " ++ decimal k) (both (codes "refused ") (decimal k) (no_end (codes "refused ") refl) (decimal_no_end k))
 
+  refused_at_line : (k m : ℕ) → LineAt place (line place (reports.RefusedAt k (record { 0 = m })) links)
+  unfolding answer line
+  refused_at_line k m =
+      ended place (codes "refused " ++ (decimal k ++ (codes " at " ++ decimal m)))
+      (both (codes "refused ") _ (no_end (codes "refused ") refl) (both (decimal k) _ (decimal_no_end k) (both (codes " at ") (decimal m) (no_end (codes " at ") refl) (decimal_no_end m))))
+
+  -- a refusal, by whether it is 8
+  refusal_line : (k m : ℕ) → LineAt place (line place (refusal_report k m) links)
+  refusal_line k m = by (eqb k no_start)
+    where
+      by : (t : Bool) → LineAt place (line place (if_passed t (reports.RefusedAt k (record { 0 = m })) (reports.Refused k)) links)
+      by true = refused_at_line k m
+      by false = refused_line k
+
   accepted_line : (order : Order) (v : Values) → LineAt place (line place (accepted order v) links)
   unfolding answer line
   accepted_line (orders_of.Book number w) v =
@@ -79,9 +94,9 @@ module _ (place : ℕ) (links : List ℕ) where
   accepted_line (orders_of.Clock minute) v = ended place (codes "clock " ++ decimal minute.0) (both (codes "clock ") (decimal minute.0) (no_end (codes "clock ") refl) (decimal_no_end minute.0))
   accepted_line (orders_of.Offer w) v = ended place (codes "offer" ++ route (record { 0 = v.start }) links) (both (codes "offer") _ (no_end (codes "offer") refl) (route_no_end (record { 0 = v.start }) links))
 
-  reported_line : (order : Order) (v : Values) (passed : Bool) → LineAt place (line place (if_passed passed (accepted order v) (reports.Refused v.number)) links)
+  reported_line : (order : Order) (v : Values) (passed : Bool) → LineAt place (line place (if_passed passed (accepted order v) (refusal_report v.number v.at)) links)
   reported_line order v true = accepted_line order v
-  reported_line order v false = refused_line v.number
+  reported_line order v false = refusal_line v.number v.at
 
 pub ordered_line : (links : List Link) (t : Tables) (bytes : List ℕ) (place : ℕ) → LineAt place (line_of place (ordered links t bytes))
 unfolding ordered answered_order
@@ -89,7 +104,7 @@ ordered_line links t bytes place = by (order_read bytes)
   where
     by : (read : Result Order Refusal) → LineAt place (line_of place (by_reading links t read))
     by (Ok order) = reported_line place _ order _ _
-    by (Err refusal) = refused_line place _ _
+    by (Err refusal) = refusal_line place [] (number refusal) 0
 
 -- ---- one order more
 

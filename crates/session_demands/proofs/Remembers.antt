@@ -1,12 +1,13 @@
 -- A booking that is accepted stands for the next order: the book that the order before it left holds it.
 use mathlib.Core.Path.{◌≡◌, refl, sym, ap, ap₂, ◌∙◌, subst}
+use mathlib.Core.Logic.{◌≢◌}
 use mathlib.Core.List.{List, ◌++◌, append_assoc, append-nil}
 use mathlib.Core.Bool.{Bool, true, false, ◌||◌, and-eq-true_iff}
 use Prim.Native.Nat.{ℕ, ◌+◌, ◌≤◌}
 use native.Mathlib.Omega.{arith}
 use borrow.Author.Tests.{eqb-true, eq-eqb, ne_eqb}
 use lib.Dec.{eqb, lit≤}
-use lib.ListN.{length, get_or, drop}
+use lib.ListN.{length, get_or, take, drop}
 use Rattle.std.specs.Prelude.{codes, Result, Ok, Err}
 use Rattle.std.proofs.lemmas.List.{append_cancel_left}
 use Rattle.units.specs.declared.Link.{Link}
@@ -21,13 +22,14 @@ use Rattle.layout.specs.declared.Wish.{Wish}
 use Rattle.layout.specs.Layout.{big_endian, cut, order_widths, order_bytes}
 use Rattle.layout.specs.Records.{if_passed, order_from, order_fields, order_read}
 use Rattle.layout.specs.Values.{request_of}
+use Rattle.report.specs.declared.Report.TheVariants as reports
 use Rattle.report.specs.Decimal.{decimal}
 use Rattle.report.specs.Line.{answer, line}
 use Rattle.choice.specs.Choice.{Grant, Choice, granted, no_start, choose}
 use Rattle.histories.specs.Kinds as kinds
 use Rattle.histories.proofs.Checks.{Verdict, lets, stops, verdict}
 use Rattle.rules.specs.Plain.{Booking, Plain, terms, graph, carries, low}
-use Rattle.rules.specs.Calls.{book, cancel, ask, done, starts, refuse, checked, own_checks, number_ok, request_ok, stands, chosen, best, put_in, next}
+use Rattle.rules.specs.Calls.{book, cancel, ask, Refusal as RefusedWith, done, starts, refused, refuse, checked, own_checks, number_ok, request_ok, stands, breaks_off, chosen, best, put_in, next}
 use Rattle.rules.specs.Desk.{answer as plain_answer}
 use Rattle.rules.proofs.Checks.{starts≢refused, passed_answer, passed_all}
 use Rattle.opening.specs.Opened.{first_size, opened}
@@ -54,19 +56,19 @@ module _ (links : List Link) (p : Plain) where
   -- a booking gets a start, and its number is in range; or it is refused
   pub data Booked (n : ℕ) (r : Request) : Type 0 where
     gets : (g : Grant) → plain_answer links p (book n r) ≡ starts g → number_ok n ≡ true → Booked n r
-    refuses : (k : ℕ) → 1 ≤ k → plain_answer links p (book n r) ≡ refuse k → Booked n r
+    refuses : (f : RefusedWith) → 1 ≤ f.number → plain_answer links p (book n r) ≡ refused f → Booked n r
 
   booked : (n : ℕ) (r : Request) → Booked n r
   unfolding kinds.answer best
   booked n r = by (verdict refuse (best links p r) (own_checks links p (book n r)) (lit≤ tt, (lit≤ tt, (lit≤ tt, (lit≤ tt, tt)))))
     where
-      chosen_by : (c : Choice Grant) → checked refuse (own_checks links p (book n r)) (chosen c) ≡ chosen c → plain_answer links p (book n r) ≡ checked refuse (own_checks links p (book n r)) (chosen c) → Booked n r
+      chosen_by : (c : Choice Grant) → let a = chosen (breaks_off links p r) c in checked refuse (own_checks links p (book n r)) a ≡ a → plain_answer links p (book n r) ≡ checked refuse (own_checks links p (book n r)) a → Booked n r
       chosen_by (granted g) e q = gets g (q ∙ e) ((and-eq-true_iff (number_ok n) (request_ok r)).0 (passed_all refuse (own_checks links p (book n r)) (starts g) (λ k h. starts≢refused (sym e ∙ h))).0).0
-      chosen_by no_start e q = refuses refusals.no_start (lit≤ tt) (q ∙ e)
+      chosen_by no_start e q = refuses (record { number = refusals.no_start; at = breaks_off links p r }) (lit≤ tt) (q ∙ e)
 
       by : Verdict refuse (best links p r) (own_checks links p (book n r)) → Booked n r
       by (lets e) = chosen_by (choose (graph links) (carries links p r) r.from r.to (low p r) r.latest.0) e refl
-      by (stops k h e) = refuses k h e
+      by (stops k h e) = refuses (record { number = k; at = 0 }) h e
 
   -- a booking in the book can be cancelled
   cancelled : (b : Booking) → number_ok b.number ≡ true → plain_answer links (put_in b p) (cancel b.number) ≡ done
@@ -75,10 +77,20 @@ module _ (links : List Link) (p : Plain) where
 
 -- ---- the two lines
 
--- the line of a refused order
-pub refused_line : (place : ℕ) (order : Order) (k : ℕ) → 1 ≤ k → line_at place (shown order (refuse k)) ≡ decimal place ++ (codes " refused " ++ (decimal k ++ codes "\n"))
+-- the line of an order that is refused with another number than 8
+pub refused_line : (place : ℕ) (order : Order) (k : ℕ) → 1 ≤ k → k ≢ refusals.no_start → line_at place (shown order (refuse k)) ≡ decimal place ++ (codes " refused " ++ (decimal k ++ codes "\n"))
 unfolding answer line
-refused_line place order k h = rw (ne_eqb k 0 (λ e. absurd (omega arith))) (append_assoc (decimal place) (codes " refused " ++ decimal k) (codes "\n"))
+refused_line place order k h d = rw (ne_eqb k 0 (λ e. absurd (omega arith)), ne_eqb k refusals.no_start d) (append_assoc (decimal place) (codes " refused " ++ decimal k) (codes "\n"))
+
+-- and of any that is refused
+refused_words : (place : ℕ) (order : Order) (f : RefusedWith) → 1 ≤ f.number → (words : List ℕ) × (line_at place (shown order (refused f)) ≡ decimal place ++ (codes " refused " ++ words))
+unfolding answer line
+refused_words place order f h = rw (ne_eqb f.number 0 (λ e. absurd (omega arith))) (by (eqb f.number refusals.no_start))
+  where
+    by : (t : Bool) → (words : List ℕ)
+        × (line place (if_passed t (reports.RefusedAt f.number (record { 0 = f.at })) (reports.Refused f.number)) (take (shown order (refused f)).path.count (shown order (refused f)).path.links) ≡ decimal place ++ (codes " refused " ++ words))
+    by true = ((decimal f.number ++ (codes " at " ++ decimal f.at)) ++ codes "\n", append_assoc (decimal place) (codes " refused " ++ (decimal f.number ++ (codes " at " ++ decimal f.at))) (codes "\n"))
+    by false = (decimal f.number ++ codes "\n", append_assoc (decimal place) (codes " refused " ++ decimal f.number) (codes "\n"))
 
 -- of one that is cancelled
 pub cancelled_line : (place number : ℕ) → line_at place (shown (orders_of.Cancel number) done) ≡ decimal place ++ (codes " cancelled " ++ (decimal number ++ codes "\n"))
@@ -86,9 +98,9 @@ unfolding answer line
 cancelled_line place number = append_assoc (decimal place) (codes " cancelled " ++ decimal number) (codes "\n")
 
 -- the words of a refused order are no other's
-pub not_refused : (place : ℕ) (order : Order) (k : ℕ) (words : List ℕ) → 1 ≤ k → line_at place (shown order (refuse k)) ≡ decimal place ++ (codes " booked " ++ words) → ⊥
-not_refused place order k words h e =
-    let z : ◌≡◌ {A = ℕ} 114 98 = ap (λ l. get_or l 1 0) (append_cancel_left (decimal place) _ _ (sym (refused_line place order k h) ∙ e)) in
+pub not_refused : (place : ℕ) (order : Order) (f : RefusedWith) (words : List ℕ) → 1 ≤ f.number → line_at place (shown order (refused f)) ≡ decimal place ++ (codes " booked " ++ words) → ⊥
+not_refused place order f words h e =
+    let z : ◌≡◌ {A = ℕ} 114 98 = ap (λ l. get_or l 1 0) (append_cancel_left (decimal place) _ _ (sym (refused_words place order f h).1 ∙ e)) in
     omega arith
 
 -- a session at a plain book that answers a booking, and then its cancellation
@@ -116,7 +128,7 @@ module _ (r : Running) (at : AtPlain r) (booking cancellation : List ℕ) (numbe
     where
       by : Booked r.links at.book number asked → line_of (r.place + 1) (answered (behind r booking) cancellation) ≡ decimal (r.place + 1) ++ (codes " cancelled " ++ (decimal number ++ codes "\n"))
       by (gets g q ok) = line_2 g q ok
-      by (refuses k h q) = absurd (not_refused r.place (orders_of.Book number wish) k words h (ap (λ a. line_at r.place (shown (orders_of.Book number wish) a)) (sym q) ∙ sym line_1 ∙ e))
+      by (refuses f h q) = absurd (not_refused r.place (orders_of.Book number wish) f words h (ap (λ a. line_at r.place (shown (orders_of.Book number wish) a)) (sym q) ∙ sym line_1 ∙ e))
 
 -- ---- the session
 

@@ -178,7 +178,7 @@ module _ (n : ℕ) where
       ap (line_of (1 + n + 1)) (answered_plain (at_place (1 + n + 1)) (fresh_plain start start_accepted (1 + n + 1)) cancellation)
       ∙ ap (λ read. line_at (1 + n + 1) (plain_told (found start) (empty (asked_guard start)) read)) cancellation_read
       ∙ ap (λ a. line_at (1 + n + 1) (shown (Cancel 7) a)) cancellation_answer
-      ∙ refused_line (1 + n + 1) (Cancel 7) 9 (lit≤ tt)
+      ∙ refused_line (1 + n + 1) (Cancel 7) 9 (lit≤ tt) (λ e. let z : ◌≡◌ {A = ℕ} 9 8 = e in absurd (omega arith))
       ∙ (let e : 1 + n + 1 ≡ n + 2 = omega arith in ap (λ place. decimal place ++ (codes " refused " ++ (decimal 9 ++ codes "\n"))) e)
 
   reached_next : reached_with (λ place. place) keeps (begun n ++ booking) ≡ at_place (1 + n + 1)

@@ -3,6 +3,7 @@ use Rattle.std.specs.Prelude.{◌≡◌, List, [], ◌∷◌, ◌++◌, ℕ, ◌
 use Rattle.units.specs.declared.Link.{Link}
 use Rattle.units.specs.declared.Refusal.{Refusal}
 use Rattle.units.specs.Limits.{most_links}
+use Rattle.units.specs.Refusals.{without_minute}
 use Rattle.units.specs.Lists.{Within}
 use Rattle.layout.specs.declared.Order.{Order}
 use Rattle.layout.specs.Records.{if_passed, order_read}
@@ -29,7 +30,7 @@ shown order a = record { report = reported order (values a); path = path_shown o
 -- 'reading a record': an order that cannot be read is refused and changes nothing
 abbrev pub plain_told : List Link → Plain → Result Order Refusal → Answered
 plain_told links p (Ok order) = shown order (plain_answer links p order)
-plain_told links p (Err refusal) = told (Err refusal)
+plain_told links p (Err refusal) = told (Err (without_minute refusal))
 
 -- the plain book behind it
 abbrev pub plain_next : List Link → Plain → Result Order Refusal → Plain
