@@ -14,7 +14,7 @@
  *   5   the latest start is before the earliest minute that can be tried
  *   6   the number stands
  *   7   64 bookings stand
- *   8   no possible start
+ *   8   no possible start; with it comes the minute at which every path breaks off
  *   9   the number doesn't stand
  *   10  the minute is before the clock
  * Pointers must be valid for their counts, and what a call writes must overlap nothing else that it is lent. */
@@ -39,12 +39,16 @@ struct gcr_head {
     uint32_t guard;
 };
 
-/* A start with its path, `count` link numbers in travel order and zero past them; all zero beside a refusal number. */
+/* A start with its path, `count` link numbers in travel order and zero past them; all zero beside a refusal number. Beside 8
+ * `at` is the minute at which it breaks off: the first, from the earliest that can be tried on, such that no single path has
+ * the bandwidth free throughout from that one to this one. It may be one of the guard's minutes. Beside a start and any other
+ * refusal `at` is zero. */
 struct gcr_choice {
     uint32_t refusal;
     uint32_t start;
     uint32_t count;
     uint32_t path[GCR_PATH_LINKS];
+    uint32_t at;
 };
 
 /* The number of ranges that a listing has; zero beside a refusal number. */
@@ -65,13 +69,13 @@ uint32_t gcr_set_up(struct gcr_head *head, const struct gcr_link *links, size_t 
                     size_t event_count, uint32_t *free, size_t free_count, uint32_t *book, size_t book_count,
                     uint32_t guard);
 
-/* Books the earliest start of the request's window. Refuses 1, 3, 4, 5, 6, 7 or 8. An open latest start is
- * 1,000,000,000. */
+/* Books the earliest start of the request's window. Refuses 1, 3, 4, 5, 6, 7 or 8, and 8 with its minute. An open latest start
+ * is 1,000,000,000. */
 struct gcr_choice gcr_book(struct gcr_head *head, const struct gcr_link *links, size_t link_count, uint32_t *events,
                            size_t event_count, uint32_t *free, size_t free_count, uint32_t *book, size_t book_count,
                            uint32_t number, struct gcr_request request);
 
-/* A booking without commitment or number. Refuses 1, 3, 4, 5 or 8. */
+/* A booking without commitment or number. Refuses 1, 3, 4, 5 or 8, and 8 with its minute. */
 struct gcr_choice gcr_offer(const struct gcr_head *head, const struct gcr_link *links, size_t link_count,
                             const uint32_t *events, size_t event_count, const uint32_t *free, size_t free_count,
                             const uint32_t *book, size_t book_count, struct gcr_request request);

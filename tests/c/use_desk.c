@@ -1,5 +1,5 @@
 /* Runs document 01's session on a desk, as the station's daemon does, with some figures shown and starts listed on the way,
- * then some calls under a guard of two minutes, and prints what each call answered. */
+ * then some calls under a guard of two minutes and some that break off there, and prints what each call answered. */
 #include <stdio.h>
 
 #include "gcr_desk.h"
@@ -14,11 +14,22 @@ static const struct gcr_link links[] = {{0, 1, 10}, {1, 2, 10}, {0, 2, 4}};
 #define LINKS links, sizeof links / sizeof *links
 #define TABLES events, GCR_EVENTS, free_figures, GCR_FREE_FIGURES, book, GCR_BOOK_FIGURES
 
-static void print_choice(const struct gcr_choice *choice)
+static void print_start(const struct gcr_choice *choice)
 {
     printf(" start %u links", choice->start);
     for (uint32_t i = 0; i < choice->count; i++)
         printf(" %u", choice->path[i]);
+    if (choice->at != 0)
+        printf(" with a minute");
+    putchar('\n');
+}
+
+/* The number of a refusal, and the minute of an 8; one beside another number should not be there. */
+static void print_refusal(unsigned place, const struct gcr_choice *choice)
+{
+    printf("%u refused %u", place, choice->refusal);
+    if (choice->refusal == 8 || choice->at != 0)
+        printf(" at %u", choice->at);
     putchar('\n');
 }
 
@@ -31,22 +42,22 @@ static void book_one(unsigned place, uint32_t number, struct gcr_request asked)
 {
     struct gcr_choice choice = gcr_book(&head, LINKS, TABLES, number, asked);
     if (choice.refusal != 0) {
-        printf("%u refused %u\n", place, choice.refusal);
+        print_refusal(place, &choice);
         return;
     }
     printf("%u booked %u", place, number);
-    print_choice(&choice);
+    print_start(&choice);
 }
 
 static void offer_one(unsigned place, struct gcr_request asked)
 {
     struct gcr_choice choice = gcr_offer(&head, LINKS, TABLES, asked);
     if (choice.refusal != 0) {
-        printf("%u refused %u\n", place, choice.refusal);
+        print_refusal(place, &choice);
         return;
     }
     printf("%u offer", place);
-    print_choice(&choice);
+    print_start(&choice);
 }
 
 static void cancel_one(unsigned place, uint32_t number)
@@ -180,8 +191,28 @@ static int guarded(void)
     return 0;
 }
 
+/* Links 0 and 1 are sold full for minutes 20 to 24. A path up to there breaks off in the last minute of 11, or in the guard
+ * behind 10; 11 Mb/s break off at once. */
+static int broken_off(void)
+{
+    if (gcr_set_up(&head, LINKS, TABLES, 2) != 0)
+        return 1;
+    printf("desk links %u guard %u\n", head.links, head.guard);
+    book_one(1, 1, request(10, 5, 20, 20));
+    offer_one(2, request(10, 11, 10, 10));
+    offer_one(3, request(10, 10, 10, 12));
+    offer_one(4, request(10, 8, 10, 10));
+    offer_one(5, request(11, 1, 7, OPEN));
+    move_clock(6, 9);
+    book_one(7, 2, request(11, 1, 7, OPEN));
+    book_one(8, 2, request(4, 20, 9, 9));
+    offer_one(9, request(4, 12, 9, 9));
+    book_one(10, 0, request(4, 12, 9, 9));
+    return 0;
+}
+
 int main(void)
 {
     refused_set_ups();
-    return session() != 0 || guarded() != 0;
+    return session() != 0 || guarded() != 0 || broken_off() != 0;
 }

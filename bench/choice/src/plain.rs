@@ -1,8 +1,9 @@
-//! A chooser in plain Rust that does the library's work: low and the events, the links that last by rows, and a search:
-//! in rounds over the links, as the library searches, or breadth-first with a queue.
+//! A chooser in plain Rust that does the library's work: low and the events, how long links last by rows, a search, and where
+//! there is no start the minute at which every path from low on breaks off. It searches in rounds over the links, as the library
+//! does, or breadth-first with a queue.
 
 use choice_tests::{ChoiceRecord, LinkEnds, Question, Tables};
-use plain_search::{queue, rounds, walk, Distances, Ends, Usable, LINKS};
+use plain_search::{break_off, queue, rounds, until, walk, Distances, Ends, Minutes, Usable, LINKS};
 
 /// The chooser that searches in rounds.
 #[inline(never)]
@@ -16,7 +17,7 @@ pub fn with_queue(ends: &LinkEnds, tables: &Tables, q: &Question) -> ChoiceRecor
     choose(ends, tables, q, queue)
 }
 
-/// The earliest start of the window that has a path.
+/// The earliest start of the window that has a path, or the minute at which every path breaks off.
 #[inline(always)]
 fn choose(
     ends: &LinkEnds,
@@ -24,33 +25,29 @@ fn choose(
     q: &Question,
     distances: impl Fn(Ends, &Usable, u32) -> Distances,
 ) -> ChoiceRecord {
-    if q.latest < q.low {
-        return ChoiceRecord::refused();
-    }
     let ends = Ends { from: &ends.from[..ends.count], to: &ends.to[..ends.count] };
     let behind = &tables.events[1..];
     let count = 1 + behind.iter().position(|&e| e == 0).unwrap_or(behind.len());
     let events = &tables.events[..count];
-    let in_window = |e: &&u32| q.low < **e && **e <= q.latest;
-    let starts = std::iter::once(&q.low).chain(events.iter().filter(in_window));
-    for &start in starts {
-        let usable = lasting(ends, events, &tables.free, q, start);
-        let distance = distances(ends, &usable, q.destination);
-        if let Some(path) = walk(ends, &usable, &distance, q.source, q.destination) {
+    let path = |usable: &Usable| walk(ends, usable, &distances(ends, usable, q.destination), q.source, q.destination);
+    let in_window = |e: &u32| q.low < *e && *e <= q.latest;
+    let low = Some(q.low).filter(|&low| low <= q.latest);
+    for start in low.into_iter().chain(events.iter().copied().filter(in_window)) {
+        let end = start + q.duration;
+        let lasting = lacking(events, &tables.free, q, start).map(|until| end <= until);
+        if let Some(path) = path(&lasting) {
             return ChoiceRecord::start(start, &path.links[..path.count]);
         }
     }
-    ChoiceRecord::refused()
+    let until = lacking(events, &tables.free, q, q.low);
+    ChoiceRecord::refused(break_off(&until, q.low, q.low + q.duration, |usable| path(usable).is_some()))
 }
 
-/// The links that have the bandwidth in each row of the span.
-fn lasting(ends: Ends, events: &[u32], free: &[u32], q: &Question, start: u32) -> Usable {
+/// For each link the first minute of the span from a start on at which it lacks the bandwidth; the span's end where there is
+/// none.
+fn lacking(events: &[u32], free: &[u32], q: &Question, start: u32) -> Minutes {
+    let end = start + q.duration;
     let row = |minute: u32| events.partition_point(|&e| e <= minute) - 1;
-    let (first, last) = (row(start), row(start + q.duration - 1));
-    let rows = &free[first * LINKS..(last + 1) * LINKS];
-    let mut usable = [false; LINKS];
-    for (link, usable) in usable.iter_mut().enumerate().take(ends.from.len()) {
-        *usable = rows.chunks_exact(LINKS).all(|row| q.bandwidth <= row[link]);
-    }
-    usable
+    let (first, last) = (row(start), row(end - 1));
+    until(&events[first..=last], &free[first * LINKS..(last + 1) * LINKS], q.bandwidth, start, end)
 }

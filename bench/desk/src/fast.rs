@@ -2,7 +2,7 @@
 //! tables; it checks their sizes, then that they are sound, by making events and free figures anew from the book, and then
 //! what document 01 asks of the call. A refused call writes nothing.
 
-use desk_tests::{Head, Link, Request};
+use desk_tests::{Head, Link, Refused, Request};
 use desk_tests::{BOOKINGS, EVENTS, LINKS, LIST_FIGURES, NODES, PATH_LINKS, PLACE, ROW};
 use desk_tests::{MAX_BANDWIDTH, MAX_CAPACITY, MAX_DURATION, MAX_GUARD, MAX_MINUTE, MAX_NUMBER, MAX_SHOWN};
 
@@ -48,17 +48,17 @@ pub fn set_up(links: &[Link], tables: &mut Tables, guard: u32) -> Result<(), u32
 }
 
 /// Refuses 1, 3, 4, 5, 6, 7, 8.
-pub fn book(links: &[Link], tables: &mut Tables, number: u32, request: &Request) -> Result<Start, u32> {
+pub fn book(links: &[Link], tables: &mut Tables, number: u32, request: &Request) -> Result<Start, Refused> {
     let events = check_tables(links, tables)?;
     if !valid_number(number) {
-        return Err(4);
+        return Err(4.into());
     }
     check_request(tables.head.clock, request)?;
-    let Err(place) = find(tables, number) else { return Err(6) };
+    let Err(place) = find(tables, number) else { return Err(6.into()) };
     if tables.head.bookings as usize == BOOKINGS {
-        return Err(7);
+        return Err(7.into());
     }
-    let start = choose(links, tables, events, request).ok_or(8u32)?;
+    let start = choose(links, tables, events, request)?;
     let (first, events) = insert_event(tables, events, start.minute);
     let (end, _) = insert_event(tables, events, start.minute + request.duration + tables.head.guard);
     for row in tables.free[first * ROW..end * ROW].chunks_exact_mut(ROW) {
@@ -76,10 +76,9 @@ pub fn book(links: &[Link], tables: &mut Tables, number: u32, request: &Request)
 }
 
 /// Refuses 1, 3, 4, 5, 8.
-pub fn offer(links: &[Link], tables: &Tables, request: &Request) -> Result<Start, u32> {
-    let events = check_tables(links, tables)?;
-    check_request(tables.head.clock, request)?;
-    choose(links, tables, events, request).ok_or(8)
+pub fn offer(links: &[Link], tables: &Tables, request: &Request) -> Result<Start, Refused> {
+    let events = check_offer(links, tables, request)?;
+    choose(links, tables, events, request)
 }
 
 /// Writes every start there is as ranges into the list, and answers their number. Refuses 1, 13, 3, 4, 5.
@@ -150,6 +149,13 @@ fn check_sizes(links: &[Link], tables: &Tables) -> Result<(), u32> {
 fn check_tables(links: &[Link], tables: &Tables) -> Result<usize, u32> {
     check_sizes(links, tables)?;
     sound(links, tables).ok_or(3)
+}
+
+/// The checks of an offer; answers the number of events.
+pub fn check_offer(links: &[Link], tables: &Tables, request: &Request) -> Result<usize, u32> {
+    let events = check_tables(links, tables)?;
+    check_request(tables.head.clock, request)?;
+    Ok(events)
 }
 
 /// The checks of a listing; answers the number of events.
@@ -333,8 +339,8 @@ fn insert_event(tables: &mut Tables, events: usize, minute: u32) -> (usize, usiz
     (row, events + 1)
 }
 
-/// The best start among low and the later events of the window.
-fn choose(links: &[Link], tables: &Tables, events: usize, request: &Request) -> Option<Start> {
+/// The best start among low and the later events of the window, or 8 with its minute.
+fn choose(links: &[Link], tables: &Tables, events: usize, request: &Request) -> Result<Start, Refused> {
     let events = &tables.events[..events];
     let low = request.earliest.max(tables.head.clock);
     let first = events.partition_point(|&event| event <= low) - 1;
@@ -343,7 +349,7 @@ fn choose(links: &[Link], tables: &Tables, events: usize, request: &Request) -> 
     for row in first..events.len() {
         let minute = events[row].max(low);
         if minute > request.latest {
-            return None;
+            break;
         }
         let end = minute + request.duration + tables.head.guard;
         let span = events[row + 1..].iter().take_while(|&&event| event < end).count();
@@ -352,11 +358,24 @@ fn choose(links: &[Link], tables: &Tables, events: usize, request: &Request) -> 
             continue;
         }
         if let Some((path, count)) = search(links, usable, request.from, request.to) {
-            return Some(Start { minute, count, path });
+            return Ok(Start { minute, count, path });
         }
         without_path = usable;
     }
-    None
+    let row = first + break_off(links, request, &enough[first..events.len()]);
+    Err(Refused { number: 8, at: events[row].max(low) })
+}
+
+/// The first row, from low's on, such that no path has the bandwidth in all rows up to it, by the links that have it in each.
+fn break_off(links: &[Link], request: &Request, enough: &[u64]) -> usize {
+    let (mut usable, mut with_path) = (u64::MAX, None);
+    let breaks = |&set: &u64| {
+        usable &= set;
+        let same = with_path == Some(usable);
+        with_path = Some(usable);
+        !same && rounds(links, usable, request.from, request.to).is_none()
+    };
+    enough.iter().position(breaks).expect("low is not possible")
 }
 
 /// The links with enough bandwidth in each row from the first on.

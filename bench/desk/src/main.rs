@@ -2,7 +2,7 @@
 //! proved desk through its exported calls and by the unverified one, in one run. Both check that the tables are sound by
 //! making them anew; both work on a fresh copy of the tables each time, which is counted. A listing has a fullest desk of
 //! its own, on which it takes longest, and a typical one; it is timed beside plain Rust of the same steps, and beside the
-//! unverified desk's, which has sets of links as bits and searches only where the set is another than before.
+//! unverified desk's, which has sets of links as bits and searches only where the set is another than before. So is an offer.
 
 use std::hint::black_box;
 
@@ -10,12 +10,13 @@ use desk_bench::{fast, same_steps};
 use desk_tests::plain::{Booking, Desk, Walk};
 use desk_tests::sessions::fullest;
 use desk_tests::tables::{self, Tables};
-use desk_tests::{exported, Link, Request};
+use desk_tests::{exported, Link, Refused, Request};
 use desk_tests::{BOOKINGS, EVENTS, LINKS, LIST_FIGURES, MAX_CAPACITY, MAX_MINUTE, PATH_LINKS};
 use timing::{compare, nanoseconds};
 
 const TURNS: u32 = 20;
 
+type Offer = fn(&[Link], &fast::Tables, &Request) -> Result<fast::Start, Refused>;
 type Listing = fn(&[Link], &fast::Tables, &Request, &mut [u32]) -> Result<u32, u32>;
 
 /// The same tables, lent to the unverified desk.
@@ -63,6 +64,20 @@ fn time_form(desk: &Desk) {
     println!("form of a public call: {form:.0} ns of {whole:.0} ns, ratio to the core {:.4}", whole / (whole - form));
 }
 
+/// Times an offer that is answered as the independent desk answers it, beside both unverified ones.
+fn time_offer(what: &str, desk: &Desk, request: &Request) {
+    let links = &desk.links;
+    let answer = desk.offer(request).map(|start| start.minute);
+    for (how, offer) in [("the same steps", same_steps::offer as Offer), ("bit sets", fast::offer)] {
+        time(
+            &format!("offer, {what}, beside {how}"),
+            desk,
+            |t| exported::offer(links, t, request).map(|start| start.minute) == answer,
+            |t| offer(links, &lent(t), request).map(|start| start.minute) == answer,
+        );
+    }
+}
+
 /// Times a listing whose ranges are those of the independent desk, beside both unverified ones.
 fn time_list(what: &str, desk: &Desk, request: &Request) {
     let links = &desk.links;
@@ -108,6 +123,17 @@ fn longest_listing(in_turn: bool) -> (Desk, Request) {
     (desk, Request { from: 0, to: last, bandwidth, duration, earliest: 0, latest: MAX_MINUTE })
 }
 
+/// An offer whose one start breaks off after 35 searches: on the line of the longest listing each of the 33 spare links lacks the
+/// bandwidth from a minute of its own on, and then the first link of the line.
+fn late_break_off() -> (Desk, Request) {
+    let (mut desk, request) = longest_listing(true);
+    let spares = LINKS as u32 - PATH_LINKS as u32;
+    desk.bookings.retain(|booking| booking.number <= spares || booking.number == BOOKINGS as u32);
+    desk.bookings.iter_mut().for_each(|booking| booking.duration = request.duration);
+    let (low, duration) = (request.duration, 2 * request.duration);
+    (desk, Request { earliest: low, latest: low, duration, ..request })
+}
+
 /// A day on a ring of eight nodes with links both ways: 24 bookings of one to four hours, and two hours asked for.
 fn typical_listing() -> (Desk, Request) {
     let ring = |node: u32| {
@@ -144,18 +170,10 @@ fn main() {
         |t| exported::book(links, t, last, &request).is_ok(),
         |t| fast::book(links, &mut lent(t), last, &request).is_ok(),
     );
-    time(
-        "offer, at low",
-        &desk,
-        |t| exported::offer(links, t, &request).is_ok(),
-        |t| fast::offer(links, &lent(t), &request).is_ok(),
-    );
-    time(
-        "offer, no start",
-        &desk,
-        |t| exported::offer(links, t, &no_way) == Err(8),
-        |t| fast::offer(links, &lent(t), &no_way) == Err(8),
-    );
+    time_offer("at low", &desk, &request);
+    time_offer("no start", &desk, &no_way);
+    let (broken, late) = late_break_off();
+    time_offer("no start, a link less at each event", &broken, &late);
     time(
         "cancel",
         &desk,

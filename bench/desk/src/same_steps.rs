@@ -1,24 +1,36 @@
-//! The listing in plain Rust by the proved one's steps, after the checks of the unverified desk: events are scanned from
-//! place 0 each time, and for each minute that is tried, rows, lasting links and path are found anew.
+//! The offer and the listing in plain Rust by the proved ones' steps, after the checks of the unverified desk: events are scanned
+//! from place 0 each time, and for each minute that is tried, rows, how long links last and path are found anew.
 
 use std::hint::black_box;
 
-use desk_tests::{Link, Request};
-use plain_search::{lasting, rounds, walk, Ends, LINKS};
+use desk_tests::{Link, Refused, Request};
+use plain_search::{break_off, rounds, until, walk, Ends, Minutes, Path, Usable, LINKS};
 
-use crate::fast::{check_listing, Tables};
+use crate::fast::{check_listing, check_offer, Start, Tables};
+
+/// Refuses 1, 3, 4, 5, 8.
+pub fn offer(links: &[Link], tables: &Tables, request: &Request) -> Result<Start, Refused> {
+    check_offer(links, tables, request)?;
+    let low = request.earliest.max(tables.head.clock);
+    ask(links, tables, request, |asked| asked.first_start(low).ok_or_else(|| asked.no_start(low)))
+}
 
 /// Writes every start there is as ranges into the list, and answers their number. Refuses 1, 13, 3, 4, 5.
 pub fn list(links: &[Link], tables: &Tables, request: &Request, list: &mut [u32]) -> Result<u32, u32> {
     check_listing(links, tables, request, list)?;
+    let low = request.earliest.max(tables.head.clock);
+    Ok(ask(links, tables, request, |asked| asked.list_ranges(low, list)))
+}
+
+/// What is answered by what is asked of the tables, the ends of the links in columns.
+fn ask<A>(links: &[Link], tables: &Tables, request: &Request, answer: impl FnOnce(Asked) -> A) -> A {
     let (mut from, mut to) = ([0; LINKS], [0; LINKS]);
     for (place, link) in links.iter().enumerate() {
         (from[place], to[place]) = (link.from, link.to);
     }
     let ends = Ends { from: &from[..links.len()], to: &to[..links.len()] };
     let span = request.duration + tables.head.guard;
-    let asked = Asked { ends, events: tables.events, free: tables.free, request, span };
-    Ok(asked.list_ranges(request.earliest.max(tables.head.clock), list))
+    answer(Asked { ends, events: tables.events, free: tables.free, request, span })
 }
 
 /// What is asked of which tables.
@@ -32,6 +44,20 @@ struct Asked<'a> {
 }
 
 impl Asked<'_> {
+    /// The earliest start from low to the latest, with its path.
+    fn first_start(&self, low: u32) -> Option<Start> {
+        let granted =
+            |minute: u32| self.path_at(minute).map(|path| Start { minute, count: path.count as u32, path: path.links });
+        let in_window = |event: &u32| low < *event && *event <= self.request.latest;
+        granted(low).or_else(|| self.events.iter().copied().filter(in_window).find_map(granted))
+    }
+
+    /// Refusal 8, where every path from low on breaks off.
+    fn no_start(&self, low: u32) -> Refused {
+        let leads = |usable: &Usable| black_box(self.path(usable)).is_some();
+        Refused { number: 8, at: break_off(&self.lacking(low), low, low + self.span, leads) }
+    }
+
     /// Writes the ranges with zeros behind them, and answers their number.
     fn list_ranges(&self, low: u32, list: &mut [u32]) -> u32 {
         let mut count = 0;
@@ -81,11 +107,26 @@ impl Asked<'_> {
 
     /// Whether a start has a path; the whole path is made, as the proved listing makes it.
     fn possible(&self, start: u32) -> bool {
-        let &Request { from, to, bandwidth, .. } = self.request;
-        let (first, last) = (self.row_at(start), self.row_at(start + self.span - 1));
-        let usable = lasting(&self.free[first * LINKS..(last + 1) * LINKS], bandwidth);
-        let distance = rounds(self.ends, &usable, to);
-        black_box(walk(self.ends, &usable, &distance, from, to)).is_some()
+        black_box(self.path_at(start)).is_some()
+    }
+
+    /// The path of a start over the links that last throughout its span.
+    fn path_at(&self, start: u32) -> Option<Path> {
+        let end = start + self.span;
+        self.path(&self.lacking(start).map(|until| end <= until))
+    }
+
+    fn path(&self, usable: &Usable) -> Option<Path> {
+        let &Request { from, to, .. } = self.request;
+        walk(self.ends, usable, &rounds(self.ends, usable, to), from, to)
+    }
+
+    /// For each link the first minute of a start's span at which it lacks the bandwidth; the span's end where there is none.
+    fn lacking(&self, start: u32) -> Minutes {
+        let end = start + self.span;
+        let (first, last) = (self.row_at(start), self.row_at(end - 1));
+        let rows = &self.free[first * LINKS..(last + 1) * LINKS];
+        until(&self.events[first..=last], rows, self.request.bandwidth, start, end)
     }
 
     /// The row of a minute.

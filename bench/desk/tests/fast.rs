@@ -1,5 +1,5 @@
 //! The unverified desk against the independent one: random histories and damages, every table figure compared, and
-//! sessions through the program. Each listing is made by the proved one's steps as well.
+//! sessions through the program. Each offer and each listing is made by the proved ones' steps as well.
 
 use std::io::Write;
 use std::process::{Command, Stdio};
@@ -14,7 +14,7 @@ use desk_tests::listings::{self, KINDS};
 use desk_tests::plain::{self, Answer, Call, Desk};
 use desk_tests::sessions::{session, History};
 use desk_tests::tables::{self, Tables};
-use desk_tests::{Link, LIST_FIGURES};
+use desk_tests::{Link, Refused, LIST_FIGURES};
 use support::Random;
 
 const SEED: u64 = 0x0DE5_5000;
@@ -28,23 +28,44 @@ fn answered(start: Start) -> plain::Start {
 fn run(links: &[Link], tables: &mut Tables, call: &Call) -> Answer {
     let Tables { head, events, free, book } = tables;
     let lent = &mut fast::Tables { head, events, free, book };
-    let answer = match call {
-        Call::SetUp { links, guard } => fast::set_up(links, lent, *guard).map(|()| Answer::SetUp),
-        Call::Book(number, request) => {
-            fast::book(links, lent, *number, request).map(|start| Answer::Booked(answered(start)))
+    run_lent(links, lent, call).unwrap_or_else(Answer::Refused)
+}
+
+fn run_lent(links: &[Link], lent: &mut fast::Tables, call: &Call) -> Result<Answer, Refused> {
+    Ok(match call {
+        Call::SetUp { links, guard } => {
+            fast::set_up(links, lent, *guard)?;
+            Answer::SetUp
         }
-        Call::Offer(request) => fast::offer(links, lent, request).map(|start| Answer::Offered(answered(start))),
+        Call::Book(number, request) => {
+            let same_steps = same_steps::offer(links, lent, request);
+            let booked = fast::book(links, lent, *number, request);
+            if matches!(booked, Ok(_) | Err(Refused { number: 8, .. })) {
+                assert_eq!(same_steps, booked, "by the same steps, {call:?}");
+            }
+            Answer::Booked(answered(booked?))
+        }
+        Call::Offer(request) => {
+            let offered = fast::offer(links, lent, request);
+            assert_eq!(same_steps::offer(links, lent, request), offered, "by the same steps, {call:?}");
+            Answer::Offered(answered(offered?))
+        }
         Call::List(figures, request) => {
             let listed = listing(*figures, |list| fast::list(links, lent, request, list));
             let same_steps = listing(*figures, |list| same_steps::list(links, lent, request, list));
             assert_eq!(same_steps, listed, "by the same steps, {call:?}");
-            listed.map(Answer::Listed)
+            Answer::Listed(listed?)
         }
-        Call::Cancel(number) => fast::cancel(links, lent, *number).map(|()| Answer::Cancelled),
-        Call::MoveClock(minute) => fast::move_clock(links, lent, *minute).map(|()| Answer::Moved),
-        Call::Show { link, minute } => fast::show(links, lent, *link, *minute).map(Answer::Shown),
-    };
-    answer.unwrap_or_else(Answer::Refused)
+        Call::Cancel(number) => {
+            fast::cancel(links, lent, *number)?;
+            Answer::Cancelled
+        }
+        Call::MoveClock(minute) => {
+            fast::move_clock(links, lent, *minute)?;
+            Answer::Moved
+        }
+        Call::Show { link, minute } => Answer::Shown(fast::show(links, lent, *link, *minute)?),
+    })
 }
 
 /// The set-up that a desk began with.
@@ -106,7 +127,7 @@ fn refused_alike(links: &[Link], mut tables: Tables, what: &str) {
     let before = tables.clone();
     let show = Call::Show { link: 0, minute: tables.head.clock };
     let expected = match tables::read(links, &tables) {
-        Err(refusal) => Answer::Refused(refusal),
+        Err(refusal) => Answer::refused(refusal),
         Ok(mut desk) => desk.answer(&show),
     };
     assert_eq!(run(links, &mut tables, &show), expected, "{what}");
@@ -117,7 +138,7 @@ fn refused_alike(links: &[Link], mut tables: Tables, what: &str) {
             assert_eq!(run(links, &mut tables, &call), expected, "{what}, {call:?}");
         }
         let another_length = Call::List(LIST_FIGURES + 1, request);
-        let first = if expected == Answer::Refused(3) { Answer::Refused(13) } else { expected };
+        let first = if expected == Answer::refused(3) { Answer::refused(13) } else { expected };
         assert_eq!(run(links, &mut tables, &another_length), first, "{what}, {another_length:?}");
     }
     assert!(tables == before, "a refusal writes, {what}");

@@ -1,5 +1,6 @@
 //! The path search in plain Rust, which the proved one is timed beside: distances to the destination, in rounds over the
-//! links as the library makes them or breadth-first with a queue, and the walk along them; and the links that last.
+//! links as the library makes them or breadth-first with a queue, and the walk along them; how long the links last, and where every
+//! path breaks off.
 
 /// The most links of a desk, and the figures of a row.
 pub const LINKS: usize = 64;
@@ -14,6 +15,8 @@ const FAR: u32 = NODES as u32;
 pub type Usable = [bool; LINKS];
 /// The distance of each node to the destination.
 pub type Distances = [u32; NODES];
+/// The minute of each link at which it lacks the bandwidth first.
+pub type Minutes = [u32; LINKS];
 
 /// The ends of the links, of which there are 64 at most.
 #[derive(Clone, Copy)]
@@ -28,15 +31,27 @@ pub struct Path {
     pub links: [u32; PATH_LINKS],
 }
 
-/// The links that have the bandwidth in each of the rows, row by row.
-pub fn lasting(rows: &[u32], bandwidth: u32) -> Usable {
-    let mut lasting = [true; LINKS];
-    for row in rows.chunks_exact(LINKS) {
-        for (lasting, &figure) in lasting.iter_mut().zip(row) {
-            *lasting &= bandwidth <= figure;
+/// For each link the first minute from `start` on at which it has less than the bandwidth, by the events and rows of a span;
+/// `end` where there is none. Rows are looked at from the last back, as the library looks at them.
+pub fn until(events: &[u32], rows: &[u32], bandwidth: u32, start: u32, end: u32) -> Minutes {
+    let mut until = [end; LINKS];
+    for (&event, row) in events.iter().zip(rows.chunks_exact(LINKS)).rev() {
+        let minute = event.max(start);
+        for (until, &figure) in until.iter_mut().zip(row) {
+            *until = if figure < bandwidth { minute } else { *until };
         }
     }
-    lasting
+    until
+}
+
+/// The first minute from low on such that no path has the bandwidth up to it, or `end`: links change only where one of them lacks
+/// it first, and paths are searched only there, as in the library.
+pub fn break_off(until: &Minutes, low: u32, end: u32, leads: impl Fn(&Usable) -> bool) -> u32 {
+    let mut minute = low;
+    while minute < end && leads(&until.map(|until| minute < until)) {
+        minute = until.iter().copied().filter(|&until| minute < until).fold(end, u32::min);
+    }
+    minute
 }
 
 /// The distances in rounds over all links, until one reaches no node.

@@ -31,7 +31,7 @@ session_text =
     codes "desk links 3\n"
     ++ codes "1 booked 7 start 0 links 2\n"
     ++ codes "2 booked 9 start 0 links 0 1\n"
-    ++ codes "3 refused 8\n"
+    ++ codes "3 refused 8 at 2\n"
     ++ codes "4 booked 3 start 5 links 0 1\n"
     ++ codes "5 cancelled 9\n"
     ++ codes "6 offer start 0 links 0 1\n"

@@ -13,6 +13,8 @@ pub const PATH_LINKS: usize = 31;
 pub const EVENTS: usize = 129;
 /// The last minute of a latest start.
 pub const LAST_MINUTE: u32 = 1_000_000_000;
+/// The last end of a span.
+pub const LAST_END: u32 = 1_000_525_615;
 /// The longest duration.
 pub const LONGEST: u32 = 525_600;
 /// The refusal number of a window with no possible start.
@@ -33,24 +35,26 @@ pub struct Path {
     pub links: [u32; PATH_LINKS],
 }
 
-/// A choice: the number 0 with start and path, or a refusal number with zeros.
+/// A choice: the number 0 with start and path, or a refusal number with zeros and the minute at which every path from low on breaks
+/// off.
 #[repr(C)]
 #[derive(Clone, Copy, Debug, PartialEq, Eq)]
 pub struct ChoiceRecord {
     pub refusal: u32,
     pub start: u32,
     pub path: Path,
+    pub at: u32,
 }
 
 impl ChoiceRecord {
     pub fn start(start: u32, links: &[u32]) -> Self {
         let mut path = Path { count: links.len() as u32, links: [0; PATH_LINKS] };
         path.links[..links.len()].copy_from_slice(links);
-        ChoiceRecord { refusal: 0, start, path }
+        ChoiceRecord { refusal: 0, start, path, at: 0 }
     }
 
-    pub fn refused() -> Self {
-        ChoiceRecord { refusal: NO_START, start: 0, path: Path { count: 0, links: [0; PATH_LINKS] } }
+    pub fn refused(at: u32) -> Self {
+        ChoiceRecord { refusal: NO_START, start: 0, path: Path { count: 0, links: [0; PATH_LINKS] }, at }
     }
 }
 
@@ -117,6 +121,7 @@ pub fn askable(ends: &LinkEnds, tables: &Tables, q: &Question) -> bool {
         && tables.events[0] <= q.low
         && (1..=LONGEST).contains(&q.duration)
         && q.latest <= LAST_MINUTE
+        && q.low <= LAST_END - q.duration
 }
 
 /// The library's chooser.
@@ -129,7 +134,7 @@ pub fn choose_start(ends: &LinkEnds, tables: &Tables, q: &Question) -> ChoiceRec
 #[inline(always)]
 fn call(ends: &LinkEnds, tables: &Tables, q: &Question) -> ChoiceRecord {
     use exported::{Quantity, Search};
-    // Safe: the arguments meet the `requires`, and the declaration is that of crates/choice/src/lib.rt.
+    // Safe: the arguments meet the `requires`, and the declaration is that of crates/choice_c/src/lib.rt.
     unsafe {
         exported::choose_start(
             Search {

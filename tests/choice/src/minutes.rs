@@ -1,13 +1,11 @@
-//! A chooser that tries every minute of the window, from the bookings alone, and looks for a path by its length.
+//! A chooser that tries every minute of the window, and for a refusal every minute of low's span, from the bookings alone, and
+//! looks for a path by its length.
 
 use crate::desk::Desk;
 use crate::{ChoiceRecord, Question, PATH_LINKS};
 
-/// The earliest minute with a path, with that path.
+/// The earliest minute with a path, with that path; or the minute at which every path from low on breaks off.
 pub fn choose(desk: &Desk, q: &Question) -> ChoiceRecord {
-    if q.latest < q.low {
-        return ChoiceRecord::refused();
-    }
     let lasts: Vec<Vec<u32>> = (0..desk.links.len()).map(|link| lasts(desk, link, q)).collect();
     for start in q.low..=q.latest {
         let usable = |link: usize| lasts[link][(start - q.low) as usize] >= q.duration;
@@ -15,12 +13,31 @@ pub fn choose(desk: &Desk, q: &Question) -> ChoiceRecord {
             return ChoiceRecord::start(start, &path);
         }
     }
-    ChoiceRecord::refused()
+    let from_low: Vec<u32> = lasts.iter().map(|minutes| minutes[0]).collect();
+    ChoiceRecord::refused(break_off(desk, q, &from_low))
 }
 
-/// For each minute of the window, the number of minutes from it on in which the link has the bandwidth.
+/// The first minute from low on such that no path has the bandwidth in each minute up to it, by the number of minutes from low on
+/// in which each link has it; the end of low's span where a path has it throughout.
+fn break_off(desk: &Desk, q: &Question, from_low: &[u32]) -> u32 {
+    let mut searched = None;
+    for minutes in 1..=q.duration {
+        let usable: Vec<bool> = from_low.iter().map(|&lasts| minutes <= lasts).collect();
+        // The same links have the same paths.
+        if searched.as_ref() != Some(&usable) {
+            if path(desk, &|link| usable[link], q.source, q.destination).is_none() {
+                return q.low + minutes - 1;
+            }
+            searched = Some(usable);
+        }
+    }
+    q.low + q.duration
+}
+
+/// For each minute from low to the latest start, and for low, the number of minutes from it on in which the link has the
+/// bandwidth.
 fn lasts(desk: &Desk, link: usize, q: &Question) -> Vec<u32> {
-    let minutes = (q.latest - q.low + q.duration) as usize;
+    let minutes = (q.latest.max(q.low) - q.low + q.duration) as usize;
     let mut taken = vec![0i64; minutes + 1];
     for b in desk.bookings.iter().filter(|b| b.links.contains(&link)) {
         let place = |minute: u32| (minute.saturating_sub(q.low) as usize).min(minutes);

@@ -1,8 +1,8 @@
 //! The library beside the chooser that tries every minute, on the tables of random bookings.
 
 use choice_tests::desk::{Booking, Desk, Link};
-use choice_tests::{choose_start, minutes, Question, LAST_MINUTE};
-use support::Random;
+use choice_tests::{choose_start, minutes, ChoiceRecord, Question, LAST_MINUTE};
+use support::{assert_enough, Random};
 
 const CASES: u64 = 24_000;
 
@@ -57,9 +57,43 @@ fn question(random: &mut Random, desk: &Desk) -> Question {
     }
 }
 
+/// How often each kind of answer has occurred.
+#[derive(Default, Debug)]
+struct Counts {
+    at_low: u32,
+    later: u32,
+    /// Refusals whose minute is low; is later; is where a link is free again that was not before; is the end of low's span, of
+    /// an empty window.
+    broken_at_low: u32,
+    broken_later: u32,
+    link_free_again: u32,
+    lasting: u32,
+}
+
+impl Counts {
+    fn add(&mut self, desk: &Desk, q: &Question, answer: &ChoiceRecord) {
+        if answer.refusal == 0 {
+            self.at_low += (answer.start == q.low) as u32;
+            self.later += (q.low < answer.start) as u32;
+            return;
+        }
+        let end = q.low + q.duration;
+        let again = |&link: &usize| {
+            let mut before =
+                desk.events().into_iter().filter(|&event| q.low < event && event < answer.at).chain([q.low]);
+            q.bandwidth <= desk.free(link, answer.at) && before.any(|minute| desk.free(link, minute) < q.bandwidth)
+        };
+        let later = q.low < answer.at && answer.at < end;
+        self.broken_at_low += (answer.at == q.low) as u32;
+        self.broken_later += later as u32;
+        self.link_free_again += (later && (0..desk.links.len()).any(|link| again(&link))) as u32;
+        self.lasting += (answer.at == end) as u32;
+    }
+}
+
 #[test]
 fn random_desks() {
-    let (mut at_low, mut later, mut refused) = (0, 0, 0);
+    let mut counts = Counts::default();
     for seed in 0..CASES {
         let mut random = Random::new(seed);
         let (links, bookings) = if seed % 8 == 0 { (64, 90) } else { (12, 40) };
@@ -68,12 +102,16 @@ fn random_desks() {
         let ours = choose_start(&desk.ends(), &desk.tables(), &q);
         let plain = minutes::choose(&desk, &q);
         assert_eq!(ours, plain, "seed {seed}: {q:?} on {desk:?}");
-        match ours.refusal {
-            0 if ours.start == q.low => at_low += 1,
-            0 => later += 1,
-            _ => refused += 1,
-        }
+        counts.add(&desk, &q, &ours);
     }
-    println!("at low {at_low}, later {later}, refused {refused}");
-    assert!(at_low > 2_000 && later > 1_000 && refused > 2_000, "at low {at_low}, later {later}, refused {refused}");
+    println!("{counts:?}");
+    let enough = [
+        ("starts at low", counts.at_low, 2_000),
+        ("later starts", counts.later, 1_000),
+        ("broken off at low", counts.broken_at_low, 2_000),
+        ("broken off later", counts.broken_later, 500),
+        ("broken off where a link is free again", counts.link_free_again, 100),
+        ("no break-off in low's span, of an empty window", counts.lasting, 100),
+    ];
+    assert_enough(&enough, 0);
 }

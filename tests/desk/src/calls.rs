@@ -4,7 +4,7 @@
 use support::Random;
 
 use crate::lines::OPEN;
-use crate::plain::{Call, Desk, Walk};
+use crate::plain::{Booking, Call, Desk, Walk};
 use crate::{Link, Request};
 use crate::{LINKS, LIST_FIGURES, MAX_CAPACITY, MAX_DURATION, MAX_GUARD, MAX_MINUTE, MAX_NUMBER, MAX_SHOWN, NODES};
 
@@ -36,6 +36,8 @@ pub const STYLES: [Style; 8] =
 const LONGEST_WALK: u32 = 1_500_000;
 /// The same for a listing, which never stops at a start.
 const LONGEST_LISTING: u32 = 50_000;
+/// A request is made to meet a booking that starts at most so many minutes after its low.
+const NEXT_BOOKINGS: u32 = 40_000;
 
 /// Whether the book fills up.
 pub fn fills(style: Style) -> bool {
@@ -305,7 +307,32 @@ fn request(random: &mut Random, style: Style, desk: &Desk, stands: bool) -> Requ
         41..=65 if style != Style::Long => OPEN,
         _ => (low + random.within(1, 25) as u32).min(low.max(MAX_MINUTE)),
     };
-    Request { from, to, bandwidth: bandwidth(random, style, desk, low), duration, earliest, latest }
+    let request = Request { from, to, bandwidth: bandwidth(random, style, desk, low), duration, earliest, latest };
+    if random.once_in(8) {
+        return meeting_a_booking(random, desk, request);
+    }
+    request
+}
+
+/// The request between the ends of a booking that starts later than its low, if there is one: with one more than some link of
+/// that booking has left then, and a span from low to the booking's first minute, mostly that of the guard, or beyond.
+fn meeting_a_booking(random: &mut Random, desk: &Desk, request: Request) -> Request {
+    let low = desk.low(&request);
+    let next = |booking: &&Booking| low < booking.start && booking.start <= low.saturating_add(NEXT_BOOKINGS);
+    let bookings: Vec<&Booking> = desk.bookings.iter().filter(next).collect();
+    if bookings.is_empty() {
+        return request;
+    }
+    let Booking { start, path, .. } = *pick(random, &bookings);
+    let [first, last] = [path[0], path[path.len() - 1]].map(|link| desk.links[link as usize]);
+    let bandwidth = desk.residual(*pick(random, path), *start) as u32 + 1;
+    let to_booking = start + 1 - low;
+    let duration = match random.below(3) {
+        0 => to_booking + random.below(60) as u32,
+        _ => to_booking.saturating_sub(random.below(desk.guard as u64 + 1) as u32).max(1),
+    };
+    let latest = if random.once_in(2) { low } else { low + random.below(to_booking as u64) as u32 };
+    Request { from: first.from, to: last.to, bandwidth, duration, latest, ..request }
 }
 
 /// Source and destination, of two links of the net, or over the whole chain.

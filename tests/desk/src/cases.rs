@@ -1,5 +1,5 @@
 //! Histories worked out by hand from document 01: its session, its examples and the faults that it names; listings by
-//! document 02's Job 1; offers after cancellations by its Job 4; and guards by its Job 5.
+//! document 02's Job 1; offers after cancellations by its Job 4; guards by its Job 5; and where paths break off by its Job 6.
 
 use crate::plain::{Answer, Call, Range, Start};
 use crate::{Link, Request, BOOKINGS, LIST_FIGURES, MAX_BANDWIDTH, MAX_DURATION, MAX_GUARD, MAX_MINUTE};
@@ -52,7 +52,12 @@ fn shown(link: u32, minute: u32, free: u32) -> (Call, Answer) {
 }
 
 fn refused(call: Call, refusal: u32) -> (Call, Answer) {
-    (call, Answer::Refused(refusal))
+    (call, Answer::refused(refusal))
+}
+
+/// Refusal 8, with the minute at which every path breaks off.
+fn no_start(call: Call, at: u32) -> (Call, Answer) {
+    (call, Answer::no_start(at))
 }
 
 fn set_up(links: Vec<Link>, guard: u32) -> (Call, Answer) {
@@ -63,9 +68,21 @@ fn no_set_up(links: Vec<Link>, guard: u32, refusal: u32) -> (Call, Answer) {
     refused(Call::SetUp { links, guard }, refusal)
 }
 
+/// A desk without a guard.
+fn case(name: &'static str, links: Vec<Link>, steps: Vec<(Call, Answer)>) -> Case {
+    Case { name, links, guard: 0, steps }
+}
+
+fn guarded(name: &'static str, guard: u32, links: Vec<Link>, steps: Vec<(Call, Answer)>) -> Case {
+    Case { name, links, guard, steps }
+}
+
+/// Document 01's session is the first.
 pub fn cases() -> Vec<Case> {
-    let case = |name, links, steps| Case { name, links, guard: 0, steps };
-    let guarded = |name, guard, links, steps| Case { name, links, guard, steps };
+    [desk_cases(), listing_cases(), guard_cases(), break_off_cases()].into_iter().flatten().collect()
+}
+
+fn desk_cases() -> Vec<Case> {
     vec![
         case("document 01's session", triangle(), session()),
         case("the free figure is accepted, one more is refused 8", links(&[(0, 1, 9)]), free_figure()),
@@ -84,6 +101,11 @@ pub fn cases() -> Vec<Case> {
         case("the last minutes", links(&[(0, 1, 5)]), last_minutes()),
         case("what cancelling, clock and showing refuse", triangle(), small_refusals()),
         case("an ended booking's number and room are used again", links(&[(0, 1, 5)]), used_again()),
+    ]
+}
+
+fn listing_cases() -> Vec<Case> {
+    vec![
         case("every start in document 01's session", triangle(), listed_session()),
         case("what a listing refuses", triangle(), listing_refusals()),
         case("one range over two paths in turn", links(&[(0, 1, 10), (0, 1, 10)]), paths_in_turn()),
@@ -91,6 +113,11 @@ pub fn cases() -> Vec<Case> {
         case("the most ranges there are", links(&[(0, 1, 10)]), most_ranges()),
         case("listings to the last minute", links(&[(0, 1, 5)]), listed_last_minutes()),
         case("an offer after cancellations: the same, earlier, by fewer links", triangle(), cancelled_between()),
+    ]
+}
+
+fn guard_cases() -> Vec<Case> {
+    vec![
         guarded(
             "sold full for minutes 0 to 9 under guard 2, the next starts at 12",
             2,
@@ -110,12 +137,27 @@ pub fn cases() -> Vec<Case> {
     ]
 }
 
+fn break_off_cases() -> Vec<Case> {
+    let one = || links(&[(0, 1, 10)]);
+    vec![
+        case("a break-off at the first minute that is missing, of low's span alone", one(), broken_twice()),
+        case("a break-off at one minute more than is free", one(), broken_by_one_more()),
+        case("a break-off from the clock on", one(), broken_from_the_clock()),
+        case("a break-off where another link is free, in turn", links(&[(0, 1, 10), (0, 1, 10)]), broken_in_turn()),
+        case("a break-off of the link that lasts longest", links(&[(0, 1, 10); 3]), broken_one_by_one()),
+        case("a break-off of the longer path, which lasts longer", triangle(), broken_detour()),
+        case("a break-off at low where no chain leads", triangle(), broken_without_a_chain()),
+        guarded("a break-off in the guard's minutes", 2, one(), broken_in_the_guard()),
+        guarded("the last break-offs under the longest guard", MAX_GUARD, one(), broken_last_minutes()),
+    ]
+}
+
 fn session() -> Vec<(Call, Answer)> {
     let third = request(2, 5, 4, 2, 4);
     vec![
         booked(7, request(2, 4, 10, 0, MAX_MINUTE), 0, &[2]),
         booked(9, request(2, 6, 5, 0, MAX_MINUTE), 0, &[0, 1]),
-        refused(Call::Book(3, third), 8),
+        no_start(Call::Book(3, third), 2),
         booked(3, Request { latest: 5, ..third }, 5, &[0, 1]),
         cancelled(9),
         offered(request(2, 4, 3, 0, 0), 0, &[0, 1]),
@@ -127,18 +169,18 @@ fn session() -> Vec<(Call, Answer)> {
 fn free_figure() -> Vec<(Call, Answer)> {
     vec![
         booked(1, request(1, 4, 10, 0, 0), 0, &[0]),
-        refused(Call::Book(2, request(1, 6, 10, 0, 0)), 8),
+        no_start(Call::Book(2, request(1, 6, 10, 0, 0)), 0),
         booked(2, request(1, 5, 10, 0, 0), 0, &[0]),
-        refused(Call::Book(3, request(1, 1, 1, 9, 9)), 8),
+        no_start(Call::Book(3, request(1, 1, 1, 9, 9)), 9),
         booked(3, request(1, 9, 1, 10, 10), 10, &[0]),
     ]
 }
 
 fn largest_figure() -> Vec<(Call, Answer)> {
     vec![
-        refused(Call::Book(1, request(1, MAX_BANDWIDTH, 1, 0, 0)), 8),
+        no_start(Call::Book(1, request(1, MAX_BANDWIDTH, 1, 0, 0)), 0),
         booked(1, request(1, 999_999, 1, 0, 0), 0, &[0]),
-        refused(Call::Offer(request(1, 1, 1, 0, 0)), 8),
+        no_start(Call::Offer(request(1, 1, 1, 0, 0)), 0),
     ]
 }
 
@@ -161,7 +203,7 @@ fn full_book() -> Vec<(Call, Answer)> {
         refused(Call::Book(65, one), 7),
         refused(Call::Book(65, request(1, 1_001, 10, 0, 0)), 7),
         offered(request(1, 936, 10, 0, 0), 0, &[0]),
-        refused(Call::Offer(request(1, 937, 10, 0, 0)), 8),
+        no_start(Call::Offer(request(1, 937, 10, 0, 0)), 0),
         cancelled(30),
         booked(65, one, 0, &[0]),
         refused(Call::Book(30, one), 7),
@@ -181,7 +223,7 @@ fn durations() -> Vec<(Call, Answer)> {
         booked(1, request(2, 4, MAX_DURATION, 0, 0), 0, &[2]),
         booked(2, request(2, 10, MAX_DURATION, 0, MAX_MINUTE), 0, &[0, 1]),
         booked(3, request(2, 1, 1, 0, MAX_MINUTE), MAX_DURATION, &[2]),
-        refused(Call::Offer(request(2, 1, 1, 0, MAX_DURATION - 1)), 8),
+        no_start(Call::Offer(request(2, 1, 1, 0, MAX_DURATION - 1)), 0),
     ]
 }
 
@@ -233,7 +275,7 @@ fn low_inside_a_row() -> Vec<(Call, Answer)> {
         booked(1, request(1, 10, 2, 0, 0), 0, &[0]),
         booked(2, request(1, 10, 5, 10, 10), 10, &[0]),
         offered(request(1, 10, 6, 4, 9), 4, &[0]),
-        refused(Call::Offer(request(1, 10, 6, 5, 14)), 8),
+        no_start(Call::Offer(request(1, 10, 6, 5, 14)), 10),
         offered(request(1, 10, 6, 5, 15), 15, &[0]),
         offered(request(1, 10, 8, 0, MAX_MINUTE), 2, &[0]),
     ]
@@ -248,7 +290,7 @@ fn free_throughout() -> Vec<(Call, Answer)> {
         booked(2, second, 7, &[1]),
         offered(request(2, 1, 2, 0, MAX_MINUTE), 5, &[0, 1]),
         offered(request(2, 1, 5, 0, MAX_MINUTE), 10, &[0, 1]),
-        refused(Call::Offer(request(2, 1, 5, 0, 9)), 8),
+        no_start(Call::Offer(request(2, 1, 5, 0, 9)), 0),
     ]
 }
 
@@ -281,7 +323,7 @@ fn order_of_checks() -> Vec<(Call, Answer)> {
         refused(Call::Book(0, Request { latest: 1, ..good }), 4),
         refused(Call::Book(1, Request { latest: 1, ..good }), 5),
         refused(Call::Book(1, Request { latest: 2, ..good }), 6),
-        refused(Call::Book(2, Request { latest: 2, ..good }), 8),
+        no_start(Call::Book(2, Request { latest: 2, ..good }), 2),
         refused(Call::Offer(Request { from: 32, latest: 1, ..good }), 4),
         refused(Call::Offer(Request { latest: MAX_MINUTE + 1, ..good }), 4),
         refused(Call::Offer(Request { earliest: MAX_MINUTE + 1, ..good }), 4),
@@ -298,7 +340,7 @@ fn last_minutes() -> Vec<(Call, Answer)> {
     vec![
         booked(1, last, MAX_MINUTE, &[0]),
         clock(MAX_MINUTE),
-        refused(Call::Offer(Request { bandwidth: 1, duration: 1, ..last }), 8),
+        no_start(Call::Offer(Request { bandwidth: 1, duration: 1, ..last }), MAX_MINUTE),
         refused(Call::MoveClock(MAX_MINUTE + 1), 4),
         shown(0, MAX_MINUTE + MAX_DURATION - 1, 0),
         shown(0, MAX_MINUTE + MAX_DURATION, 5),
@@ -366,7 +408,7 @@ fn listed_session() -> Vec<(Call, Answer)> {
         listed(Request { latest: 5, ..third }, &[(5, 5)]),
         listed(open(5, 4), &[(5, MAX_MINUTE)]),
         listed(open(4, 10), &[(0, MAX_MINUTE)]),
-        refused(Call::Book(3, third), 8),
+        no_start(Call::Book(3, third), 2),
         booked(3, Request { latest: 5, ..third }, 5, &[0, 1]),
         // Links 0 and 1 have 5 left in 5 to 8.
         listed(open(5, 4), &[(5, MAX_MINUTE)]),
@@ -405,7 +447,7 @@ fn listing_refusals() -> Vec<(Call, Answer)> {
         refused(of(258, Request { to: 0, ..good }), 4),
         refused(of(258, Request { duration: MAX_DURATION + 1, ..good }), 4),
         refused(of(258, Request { latest: MAX_MINUTE + 1, ..good }), 4),
-        refused(Call::Offer(Request { bandwidth: 11, ..good }), 8),
+        no_start(Call::Offer(Request { bandwidth: 11, ..good }), 0),
         listed(Request { bandwidth: 11, ..good }, &[]),
         listed(good, &[(0, 20)]),
     ]);
@@ -505,7 +547,7 @@ fn sold_full() -> Vec<(Call, Answer)> {
         shown(0, 10, 0),
         shown(0, 11, 0),
         shown(0, 12, 10),
-        refused(Call::Book(2, request(1, 1, 1, 0, 11)), 8),
+        no_start(Call::Book(2, request(1, 1, 1, 0, 11)), 0),
         offered(request(1, 1, 1, 0, 12), 12, &[0]),
         listed(request(1, 10, 5, 0, MAX_MINUTE), &[(12, MAX_MINUTE)]),
         booked(2, request(1, 10, 5, 0, MAX_MINUTE), 12, &[0]),
@@ -522,7 +564,7 @@ fn guard_before_a_booking() -> Vec<(Call, Answer)> {
         offered(request(1, 1, 17, 0, MAX_MINUTE), 0, &[0]),
         offered(request(1, 1, 18, 0, MAX_MINUTE), 28, &[0]),
         listed(request(1, 1, 5, 0, 40), &[(0, 12), (28, 40)]),
-        refused(Call::Offer(request(1, 1, 5, 13, 27)), 8),
+        no_start(Call::Offer(request(1, 1, 5, 13, 27)), 20),
         booked(2, request(1, 4, 17, 0, 0), 0, &[0]),
         shown(0, 19, 6),
         shown(0, 20, 0),
@@ -539,7 +581,7 @@ fn guarded_gap() -> Vec<(Call, Answer)> {
         listed(in_gap(2), &[(7, 8)]),
         listed(in_gap(3), &[(7, 7)]),
         listed(in_gap(4), &[]),
-        refused(Call::Book(3, in_gap(4)), 8),
+        no_start(Call::Book(3, in_gap(4)), 0),
         booked(3, in_gap(3), 7, &[0]),
         listed(request(1, 1, 1, 0, MAX_MINUTE), &[(19, MAX_MINUTE)]),
     ]
@@ -551,7 +593,7 @@ fn guarded_session() -> Vec<(Call, Answer)> {
     vec![
         booked(7, request(2, 4, 10, 0, MAX_MINUTE), 0, &[2]),
         booked(9, request(2, 6, 5, 0, MAX_MINUTE), 0, &[0, 1]),
-        refused(Call::Book(3, third), 8),
+        no_start(Call::Book(3, third), 2),
         booked(3, Request { latest: 7, ..third }, 7, &[0, 1]),
         cancelled(9),
         offered(request(2, 4, 3, 0, 0), 0, &[0, 1]),
@@ -644,7 +686,7 @@ fn guarded_durations() -> Vec<(Call, Answer)> {
         refused(Call::Book(1, request(2, 4, MAX_DURATION + 1, 0, 0)), 4),
         booked(1, request(2, 4, MAX_DURATION, 0, 0), 0, &[2]),
         booked(2, request(2, 10, MAX_DURATION, 0, MAX_MINUTE), 0, &[0, 1]),
-        refused(Call::Offer(request(2, 1, 1, 0, 525_614)), 8),
+        no_start(Call::Offer(request(2, 1, 1, 0, 525_614)), 0),
         booked(3, request(2, 1, 1, 0, MAX_MINUTE), 525_615, &[2]),
     ]
 }
@@ -661,7 +703,7 @@ fn guarded_last_minutes() -> Vec<(Call, Answer)> {
         shown(0, 1_000_525_614, 0),
         shown(0, 1_000_525_615, 5),
         refused(Call::Show { link: 0, minute: 1_000_525_616 }, 4),
-        refused(Call::Offer(Request { bandwidth: 1, duration: 1, ..last }), 8),
+        no_start(Call::Offer(Request { bandwidth: 1, duration: 1, ..last }), MAX_MINUTE),
         cancelled(1),
         shown(0, 1_000_525_614, 5),
         offered(last, MAX_MINUTE, &[0]),
@@ -709,5 +751,159 @@ fn set_up_guards() -> Vec<(Call, Answer)> {
         booked(2, request(1, 7, 3, 0, MAX_MINUTE), 2, &[0]),
         shown(0, 5, 0),
         shown(0, 6, 7),
+    ]
+}
+
+/// Minutes 3 and 4 are taken, and 8 and 9.
+fn broken_twice() -> Vec<(Call, Answer)> {
+    vec![
+        booked(1, request(1, 10, 2, 3, 3), 3, &[0]),
+        booked(2, request(1, 10, 2, 8, 8), 8, &[0]),
+        no_start(Call::Offer(request(1, 1, 20, 0, 2)), 3),
+        no_start(Call::Offer(request(1, 1, 20, 5, 5)), 8),
+        no_start(Call::Offer(request(1, 1, 20, 6, 9)), 8),
+        // The last minute of the span from 5 on.
+        no_start(Call::Offer(request(1, 1, 4, 5, 9)), 8),
+        offered(request(1, 1, 3, 5, 9), 5, &[0]),
+        // A start at 5 would last to 7, but low alone counts.
+        no_start(Call::Book(3, request(1, 1, 5, 3, 7)), 3),
+        no_start(Call::Book(3, request(1, 1, 5, 4, 9)), 4),
+        no_start(Call::Book(3, request(1, 1, 5, 1, 9)), 3),
+        // What is refused before has no minute.
+        refused(Call::Book(2, request(1, 1, 20, 0, 2)), 6),
+        refused(Call::Offer(request(1, 1, 20, 3, 2)), 5),
+        refused(Call::Offer(request(1, 0, 20, 0, 2)), 4),
+    ]
+}
+
+/// 6 Mb/s are left in minutes 6 to 10, and 7 in 12 and 13.
+fn broken_by_one_more() -> Vec<(Call, Answer)> {
+    vec![
+        booked(1, request(1, 4, 5, 6, 6), 6, &[0]),
+        booked(2, request(1, 3, 2, 12, 12), 12, &[0]),
+        offered(request(1, 6, 20, 0, 0), 0, &[0]),
+        no_start(Call::Offer(request(1, 7, 20, 0, 0)), 6),
+        offered(request(1, 7, 20, 11, 11), 11, &[0]),
+        no_start(Call::Offer(request(1, 8, 20, 11, 11)), 12),
+        no_start(Call::Offer(request(1, 11, 20, 11, MAX_MINUTE)), 11),
+        no_start(Call::Offer(request(1, 11, 1, 0, MAX_MINUTE)), 0),
+    ]
+}
+
+/// Minutes 10 to 14 are taken.
+fn broken_from_the_clock() -> Vec<(Call, Answer)> {
+    vec![
+        booked(1, request(1, 10, 5, 10, 10), 10, &[0]),
+        clock(4),
+        no_start(Call::Offer(request(1, 1, 8, 0, 6)), 10),
+        clock(12),
+        no_start(Call::Offer(request(1, 1, 8, 0, 13)), 12),
+        no_start(Call::Book(2, request(1, 1, 8, 14, 14)), 14),
+        cancelled(1),
+        offered(request(1, 1, 8, 0, 13), 12, &[0]),
+    ]
+}
+
+/// Link 0 is free in minutes 0 to 4 and link 1 in 5 to 9, as in `paths_in_turn`: each minute has a free link, and no link has
+/// both 4 and 5.
+fn broken_in_turn() -> Vec<(Call, Answer)> {
+    vec![
+        booked(1, request(1, 10, 5, 5, 5), 5, &[0]),
+        booked(2, request(1, 10, 5, 0, 0), 0, &[0]),
+        booked(3, request(1, 10, 5, 0, 0), 0, &[1]),
+        cancelled(2),
+        offered(request(1, 10, 5, 0, 0), 0, &[0]),
+        no_start(Call::Offer(request(1, 10, 6, 0, 0)), 5),
+        no_start(Call::Offer(request(1, 1, 10, 2, 4)), 5),
+        no_start(Call::Offer(request(1, 1, MAX_DURATION, 4, 4)), 5),
+        no_start(Call::Offer(request(1, 1, 2, 4, 4)), 5),
+        offered(request(1, 10, 6, 0, 5), 5, &[1]),
+    ]
+}
+
+/// Link 0 is free to minute 3, link 1 to 4 and link 2 to 6.
+fn broken_one_by_one() -> Vec<(Call, Answer)> {
+    let open = request(1, 1, 50, 0, 0);
+    vec![
+        booked(1, request(1, 10, 10, 4, 4), 4, &[0]),
+        booked(2, request(1, 10, 10, 5, 5), 5, &[1]),
+        booked(3, request(1, 10, 10, 7, 7), 7, &[2]),
+        no_start(Call::Offer(open), 7),
+        no_start(Call::Offer(Request { earliest: 5, latest: 5, ..open }), 7),
+        no_start(Call::Offer(Request { earliest: 7, latest: 13, ..open }), 7),
+        offered(Request { duration: 7, ..open }, 0, &[2]),
+        cancelled(3),
+        offered(open, 0, &[2]),
+        booked(3, request(1, 10, 10, 4, 4), 4, &[2]),
+        no_start(Call::Offer(open), 5),
+    ]
+}
+
+/// Link 2 is free to minute 2, and links 0 and 1 to 7: the path with fewest links breaks off first.
+fn broken_detour() -> Vec<(Call, Answer)> {
+    let open = request(2, 4, 20, 0, 0);
+    vec![
+        booked(1, request(2, 4, 10, 3, 3), 3, &[2]),
+        booked(2, Request { from: 1, ..request(2, 10, 2, 8, 8) }, 8, &[1]),
+        offered(Request { duration: 3, ..open }, 0, &[2]),
+        offered(Request { duration: 8, ..open }, 0, &[0, 1]),
+        no_start(Call::Offer(Request { duration: 9, ..open }), 8),
+        no_start(Call::Offer(open), 8),
+        no_start(Call::Offer(Request { bandwidth: 5, ..open }), 8),
+        // Link 0 has 3 Mb/s left in minute 6.
+        booked(3, request(1, 7, 1, 6, 6), 6, &[0]),
+        no_start(Call::Offer(open), 6),
+        no_start(Call::Offer(Request { bandwidth: 3, ..open }), 8),
+        no_start(Call::Offer(Request { bandwidth: 11, ..open }), 0),
+    ]
+}
+
+fn broken_without_a_chain() -> Vec<(Call, Answer)> {
+    let back = Request { from: 2, to: 0, bandwidth: 1, duration: 5, earliest: 0, latest: MAX_MINUTE };
+    let elsewhere = Request { from: 3, to: 31, ..back };
+    vec![
+        no_start(Call::Offer(back), 0),
+        no_start(Call::Book(1, elsewhere), 0),
+        no_start(Call::Offer(Request { earliest: 7, ..back }), 7),
+        no_start(Call::Offer(Request { earliest: MAX_MINUTE, duration: MAX_DURATION, ..back }), MAX_MINUTE),
+        clock(9),
+        no_start(Call::Offer(Request { earliest: 7, ..back }), 9),
+        no_start(Call::Book(1, Request { earliest: 10, ..elsewhere }), 10),
+    ]
+}
+
+/// Minutes 20 to 24 are taken, and 25 and 26 for the guard.
+fn broken_in_the_guard() -> Vec<(Call, Answer)> {
+    let at = |earliest| request(1, 1, 10, earliest, earliest);
+    vec![
+        booked(1, request(1, 10, 5, 20, 20), 20, &[0]),
+        // The guard's minutes are 18 and 19, then 19 and 20, then 20 and 21; and 20 is of the duration itself.
+        offered(at(8), 8, &[0]),
+        no_start(Call::Offer(at(9)), 20),
+        no_start(Call::Offer(at(10)), 20),
+        no_start(Call::Offer(at(11)), 20),
+        no_start(Call::Book(2, Request { latest: 26, ..at(9) }), 20),
+        offered(Request { latest: 27, ..at(9) }, 27, &[0]),
+        no_start(Call::Offer(at(24)), 24),
+        no_start(Call::Offer(request(1, 1, 1, 25, 26)), 25),
+        cancelled(1),
+        offered(at(9), 9, &[0]),
+    ]
+}
+
+/// A minute and its guard of fifteen, and a year and its guard, up to a booking of one minute: the last minute of the span.
+fn broken_last_minutes() -> Vec<(Call, Answer)> {
+    let minute = |earliest| request(1, 1, 1, earliest, earliest);
+    let year = request(1, 1, MAX_DURATION, 0, 0);
+    vec![
+        booked(1, request(1, 10, 1, 525_615, 525_615), 525_615, &[0]),
+        offered(year, 0, &[0]),
+        no_start(Call::Offer(Request { earliest: 1, latest: 525_599, ..year }), 525_615),
+        no_start(Call::Book(2, Request { earliest: 1, latest: 1, ..year }), 525_615),
+        booked(2, request(1, 10, 1, MAX_MINUTE, MAX_MINUTE), MAX_MINUTE, &[0]),
+        offered(minute(999_999_984), 999_999_984, &[0]),
+        no_start(Call::Offer(minute(999_999_985)), MAX_MINUTE),
+        no_start(Call::Offer(Request { latest: MAX_MINUTE, ..minute(999_999_985) }), MAX_MINUTE),
+        no_start(Call::Offer(Request { duration: MAX_DURATION, ..minute(MAX_MINUTE) }), MAX_MINUTE),
     ]
 }

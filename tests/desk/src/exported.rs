@@ -4,7 +4,7 @@ use support::Random;
 
 use crate::plain::{Answer, Call, Desk, Range, Start};
 use crate::tables::Tables;
-use crate::{Head, Link, Request, PATH_LINKS};
+use crate::{Head, Link, Refused, Request, PATH_LINKS};
 
 /// What a booking or an offer hands back.
 #[repr(C)]
@@ -14,6 +14,7 @@ struct Granted {
     start: u32,
     count: u32,
     links: [u32; PATH_LINKS],
+    at: u32,
 }
 
 /// What a listing hands back.
@@ -86,11 +87,11 @@ pub fn set_up(links: &[Link], t: &mut Tables, guard: u32) -> Result<(), u32> {
     done(writing!(gcr_set_up, links, t, guard))
 }
 
-pub fn book(links: &[Link], t: &mut Tables, number: u32, request: &Request) -> Result<Start, u32> {
+pub fn book(links: &[Link], t: &mut Tables, number: u32, request: &Request) -> Result<Start, Refused> {
     granted(writing!(gcr_book, links, t, number, *request))
 }
 
-pub fn offer(links: &[Link], t: &Tables, request: &Request) -> Result<Start, u32> {
+pub fn offer(links: &[Link], t: &Tables, request: &Request) -> Result<Start, Refused> {
     granted(reading!(gcr_offer, links, t, *request))
 }
 
@@ -130,18 +131,28 @@ pub fn fresh(desk: &Desk, random: &mut Random) -> Tables {
 
 /// A call on a desk with these links; a set-up brings its own, and its guard.
 pub fn answer(links: &[Link], tables: &mut Tables, call: &Call) -> Answer {
-    let answered = match call {
-        Call::SetUp { links, guard } => set_up(links, tables, *guard).map(|()| Answer::SetUp),
-        Call::Book(number, request) => book(links, tables, *number, request).map(Answer::Booked),
-        Call::Offer(request) => offer(links, tables, request).map(Answer::Offered),
-        Call::List(figures, request) => {
-            listing(*figures, |lent| list(links, tables, request, lent)).map(Answer::Listed)
+    try_answer(links, tables, call).unwrap_or_else(Answer::Refused)
+}
+
+fn try_answer(links: &[Link], tables: &mut Tables, call: &Call) -> Result<Answer, Refused> {
+    Ok(match call {
+        Call::SetUp { links, guard } => {
+            set_up(links, tables, *guard)?;
+            Answer::SetUp
         }
-        Call::Cancel(number) => cancel(links, tables, *number).map(|()| Answer::Cancelled),
-        Call::MoveClock(minute) => move_clock(links, tables, *minute).map(|()| Answer::Moved),
-        Call::Show { link, minute } => show(links, tables, *link, *minute).map(Answer::Shown),
-    };
-    answered.unwrap_or_else(Answer::Refused)
+        Call::Book(number, request) => Answer::Booked(book(links, tables, *number, request)?),
+        Call::Offer(request) => Answer::Offered(offer(links, tables, request)?),
+        Call::List(figures, request) => Answer::Listed(listing(*figures, |lent| list(links, tables, request, lent))?),
+        Call::Cancel(number) => {
+            cancel(links, tables, *number)?;
+            Answer::Cancelled
+        }
+        Call::MoveClock(minute) => {
+            move_clock(links, tables, *minute)?;
+            Answer::Moved
+        }
+        Call::Show { link, minute } => Answer::Shown(show(links, tables, *link, *minute)?),
+    })
 }
 
 /// The ranges that a listing writes into a lent list of so many figures. The list stands between figures that nobody may
@@ -171,11 +182,12 @@ fn done(refusal: u32) -> Result<(), u32> {
     }
 }
 
-fn granted(g: Granted) -> Result<Start, u32> {
+fn granted(g: Granted) -> Result<Start, Refused> {
     let used = g.count as usize;
+    assert!(g.refusal == 8 || g.at == 0, "a minute stands beside an answer that is not 8");
     if g.refusal != 0 {
         assert!(g.start == 0 && used == 0 && g.links == [0; PATH_LINKS], "a refusal hands back a start or a path");
-        return Err(g.refusal);
+        return Err(Refused { number: g.refusal, at: g.at });
     }
     assert!(g.links[used..].iter().all(|&link| link == 0), "a path is not zero past its last link");
     Ok(Start { minute: g.start, path: g.links[..used].to_vec() })

@@ -1,7 +1,7 @@
 //! What a guard alone brings about: told from the same bookings on a desk without one.
 
 use crate::plain::{valid_link, Answer, Booking, Call, Desk, Start, Walk};
-use crate::{LINKS, MAX_DURATION, MAX_GUARD, MAX_MINUTE, MAX_SHOWN};
+use crate::{Refused, LINKS, MAX_DURATION, MAX_GUARD, MAX_MINUTE, MAX_SHOWN};
 
 /// The guards there are.
 pub const GUARDS: usize = MAX_GUARD as usize + 1;
@@ -55,14 +55,16 @@ impl Counts {
                 self.late_guards += late as u32;
             }
             (Call::Offer(request), Answer::Offered(guarded)) => self.add_start(guarded, start(request)),
-            (Call::Book(_, request) | Call::Offer(request), Answer::Refused(8)) => {
+            (Call::Book(_, request) | Call::Offer(request), Answer::Refused(Refused { number: 8, .. })) => {
                 self.refused += start(request).is_some() as u32;
             }
-            (Call::Book(number, _), Answer::Refused(6)) => {
+            (Call::Book(number, _), Answer::Refused(Refused { number: 6, .. })) => {
                 let number_in_guard = |booking| in_guard(booking) && booking.number == *number;
                 self.number_in_guard += before.bookings.iter().any(number_in_guard) as u32;
             }
-            (Call::Book(..), Answer::Refused(7)) => self.full_by_guards += before.bookings.iter().any(in_guard) as u32,
+            (Call::Book(..), Answer::Refused(Refused { number: 7, .. })) => {
+                self.full_by_guards += before.bookings.iter().any(in_guard) as u32;
+            }
             (Call::MoveClock(minute), Answer::Moved) => {
                 self.kept += after.bookings.iter().any(in_guard) as u32;
                 let ends_now = |booking| before.guarded_end(booking) == *minute;
@@ -80,10 +82,12 @@ impl Counts {
                 self.late_shown += (MAX_MINUTE + MAX_DURATION < *minute) as u32;
                 self.last_shown += (*minute == MAX_SHOWN) as u32;
             }
-            (Call::Show { minute, .. }, Answer::Refused(4)) => self.past_last += (*minute == MAX_SHOWN + 1) as u32,
+            (Call::Show { minute, .. }, Answer::Refused(Refused { number: 4, .. })) => {
+                self.past_last += (*minute == MAX_SHOWN + 1) as u32;
+            }
             (Call::SetUp { guard, .. }, Answer::SetUp) => self.set_up[*guard as usize] += 1,
-            (Call::SetUp { links, guard }, Answer::Refused(refusal)) => {
-                self.set_up_refused[*refusal as usize] += 1;
+            (Call::SetUp { links, guard }, Answer::Refused(refused)) => {
+                self.set_up_refused[refused.number as usize] += 1;
                 let too_long = *guard > MAX_GUARD;
                 let bad_size = links.is_empty() || links.len() > LINKS;
                 self.one_before_four += (bad_size && too_long) as u32;

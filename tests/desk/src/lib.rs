@@ -1,6 +1,7 @@
 //! An independent desk, written from documents 01 and 02 alone and not from the library, which tries every minute; the
 //! tables and the program's lines that document 01 prescribes for it; and generators of sessions, histories and damages.
 
+pub mod break_offs;
 pub mod calls;
 pub mod cases;
 pub mod damages;
@@ -35,6 +36,20 @@ pub const MAX_MINUTE: u32 = 1_000_000_000;
 pub const MAX_GUARD: u32 = 15;
 /// The last minute that may be shown: the latest end under the longest guard.
 pub const MAX_SHOWN: u32 = 1_000_525_615;
+
+/// The number of a refusal. Beside 8 stands the minute at which every path from low on breaks off, beside any other 0.
+#[derive(Clone, Copy, Debug, PartialEq, Eq)]
+pub struct Refused {
+    pub number: u32,
+    pub at: u32,
+}
+
+impl From<u32> for Refused {
+    /// A refusal with no minute beside it.
+    fn from(number: u32) -> Refused {
+        Refused { number, at: 0 }
+    }
+}
 
 #[repr(C)]
 #[derive(Clone, Copy, Debug, PartialEq, Eq, Default)]

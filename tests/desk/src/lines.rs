@@ -1,7 +1,7 @@
 //! The records of document 01 and what its program writes for an input of any bytes.
 
 use crate::plain::{Answer, Call, Desk, Start};
-use crate::{Link, Request, LINKS, MAX_MINUTE};
+use crate::{Link, Refused, Request, LINKS, MAX_MINUTE};
 
 pub const LINK_BYTES: usize = 8;
 pub const ORDER_BYTES: usize = 16;
@@ -42,14 +42,15 @@ pub fn opening(input: &[u8]) -> Result<(Desk, &[u8]), u32> {
 pub fn answer(desk: &mut Desk, piece: &[u8]) -> Answer {
     match read_order(piece) {
         Ok(call) => desk.answer(&call),
-        Err(refusal) => Answer::Refused(refusal),
+        Err(refusal) => Answer::refused(refusal),
     }
 }
 
 /// The line of an answered order.
 pub fn line(place: usize, piece: &[u8], answer: &Answer) -> String {
     let outcome = match (read_order(piece), answer) {
-        (_, Answer::Refused(refusal)) => format!("refused {refusal}"),
+        (_, Answer::Refused(Refused { number: 8, at })) => format!("refused 8 at {at}"),
+        (_, Answer::Refused(Refused { number, .. })) => format!("refused {number}"),
         (Ok(Call::Book(number, _)), Answer::Booked(start)) => format!("booked {number} {}", start_words(start)),
         (Ok(Call::Cancel(number)), Answer::Cancelled) => format!("cancelled {number}"),
         (Ok(Call::MoveClock(minute)), Answer::Moved) => format!("clock {minute}"),

@@ -1,7 +1,7 @@
 //! The independent desk: a link list, a guard, a clock and a list of bookings, and the seven calls with their checks in the
 //! order of documents 01 and 02. It keeps no table: a residual bandwidth is the capacity less what the bookings hold.
 
-use crate::{Link, Request};
+use crate::{Link, Refused, Request};
 use crate::{BOOKINGS, LINKS, LIST_FIGURES, NODES, PATH_LINKS};
 use crate::{MAX_BANDWIDTH, MAX_CAPACITY, MAX_DURATION, MAX_GUARD, MAX_MINUTE, MAX_NUMBER, MAX_SHOWN};
 
@@ -50,7 +50,19 @@ pub enum Answer {
     Cancelled,
     Moved,
     Shown(u32),
-    Refused(u32),
+    Refused(Refused),
+}
+
+impl Answer {
+    /// A refusal with no minute beside it.
+    pub fn refused(number: u32) -> Answer {
+        Answer::Refused(number.into())
+    }
+
+    /// Refusal 8, with the minute at which every path from low on breaks off.
+    pub fn no_start(at: u32) -> Answer {
+        Answer::Refused(Refused { number: 8, at })
+    }
 }
 
 /// A start minute with its path.
@@ -91,34 +103,43 @@ impl Desk {
 
     /// Runs any of the seven calls on sound tables of the right sizes: refusals 1 (but for the link list) and 3 don't occur.
     pub fn answer(&mut self, call: &Call) -> Answer {
-        let answer = match call {
-            Call::SetUp { links, guard } => Desk::set_up(links, *guard).map(|desk| {
-                *self = desk;
+        self.try_answer(call).unwrap_or_else(Answer::Refused)
+    }
+
+    fn try_answer(&mut self, call: &Call) -> Result<Answer, Refused> {
+        Ok(match call {
+            Call::SetUp { links, guard } => {
+                *self = Desk::set_up(links, *guard)?;
                 Answer::SetUp
-            }),
-            Call::Book(number, request) => self.book(*number, request).map(Answer::Booked),
-            Call::Offer(request) => self.offer(request).map(Answer::Offered),
-            Call::List(figures, request) => self.list(*figures, request).map(Answer::Listed),
-            Call::Cancel(number) => self.cancel(*number).map(|()| Answer::Cancelled),
-            Call::MoveClock(minute) => self.move_clock(*minute).map(|()| Answer::Moved),
-            Call::Show { link, minute } => self.show(*link, *minute).map(Answer::Shown),
-        };
-        answer.unwrap_or_else(Answer::Refused)
+            }
+            Call::Book(number, request) => Answer::Booked(self.book(*number, request)?),
+            Call::Offer(request) => Answer::Offered(self.offer(request)?),
+            Call::List(figures, request) => Answer::Listed(self.list(*figures, request)?),
+            Call::Cancel(number) => {
+                self.cancel(*number)?;
+                Answer::Cancelled
+            }
+            Call::MoveClock(minute) => {
+                self.move_clock(*minute)?;
+                Answer::Moved
+            }
+            Call::Show { link, minute } => Answer::Shown(self.show(*link, *minute)?),
+        })
     }
 
     /// Refuses 4, 5, 6, 7, 8, in this order.
-    pub fn book(&mut self, number: u32, request: &Request) -> Result<Start, u32> {
+    pub fn book(&mut self, number: u32, request: &Request) -> Result<Start, Refused> {
         if !valid_number(number) {
-            return Err(4);
+            return Err(4.into());
         }
         self.check(request)?;
         if self.stands(number) {
-            return Err(6);
+            return Err(6.into());
         }
         if self.bookings.len() >= BOOKINGS {
-            return Err(7);
+            return Err(7.into());
         }
-        let start = self.choose(request, Walk::ToLastEvent).ok_or(8u32)?;
+        let start = self.start_or_8(request)?;
         self.bookings.push(Booking {
             number,
             start: start.minute,
@@ -130,9 +151,9 @@ impl Desk {
     }
 
     /// Refuses 4, 5, 8, in this order.
-    pub fn offer(&self, request: &Request) -> Result<Start, u32> {
+    pub fn offer(&self, request: &Request) -> Result<Start, Refused> {
         self.check(request)?;
-        self.choose(request, Walk::ToLastEvent).ok_or(8)
+        self.start_or_8(request)
     }
 
     /// Refuses 13, 4, 5, in this order.
@@ -228,6 +249,20 @@ impl Desk {
             .find_map(|minute| trial.path_at(minute).cloned().map(|path| Start { minute, path }))
     }
 
+    /// The first minute, from low on, such that no single path has the bandwidth throughout low to it: every minute is tried in
+    /// turn. Low is not possible, so it is one of the span from low on.
+    pub fn break_off(&self, request: &Request) -> u32 {
+        let mut trial = Trial::new(self, request);
+        let low = self.low(request);
+        let mut span = low..low + request.duration + self.guard;
+        span.find(|&minute| trial.path_in(low, minute + 1).is_none()).expect("no path from low on lasts")
+    }
+
+    fn start_or_8(&self, request: &Request) -> Result<Start, Refused> {
+        let start = self.choose(request, Walk::ToLastEvent);
+        start.ok_or_else(|| Refused { number: 8, at: self.break_off(request) })
+    }
+
     /// The ranges of possible start minutes of the window: every minute of it is tried in turn, and minutes that touch are
     /// in one range.
     pub fn ranges(&self, request: &Request, walk: Walk) -> Vec<Range> {
@@ -318,8 +353,12 @@ impl Trial<'_> {
 
     /// The best path over the links that have the bandwidth in every minute of the guarded span that starts here.
     pub fn path_at(&mut self, minute: u32) -> Option<&Vec<u32>> {
-        let end = minute + self.request.duration + self.desk.guard;
-        let usable = self.short.iter().map(|spans| !spans.iter().any(|&(from, to)| from < end && minute < to));
+        self.path_in(minute, minute + self.request.duration + self.desk.guard)
+    }
+
+    /// The best path over the links that have the bandwidth in every minute from one to before another.
+    pub fn path_in(&mut self, start: u32, end: u32) -> Option<&Vec<u32>> {
+        let usable = self.short.iter().map(|spans| !spans.iter().any(|&(from, to)| from < end && start < to));
         let usable = usable.enumerate().fold(0u64, |set, (link, free)| set | (free as u64) << link);
         if self.searched.as_ref().map(|&(set, _)| set) != Some(usable) {
             let path = best_path(&self.desk.links, usable, self.request.from, self.request.to);

@@ -4,7 +4,7 @@ use desk_tests::exported::{self, fresh};
 use desk_tests::plain::{Desk, Start, Walk};
 use desk_tests::sessions::History;
 use desk_tests::tables::Tables;
-use desk_tests::{Link, Request};
+use desk_tests::{Link, Refused, Request};
 use support::{assert_enough, Random, Seed};
 
 const SEED: u64 = 0x0DE5_4000;
@@ -36,14 +36,14 @@ fn some_standing(random: &mut Random, desk: &Desk) -> Vec<u32> {
 }
 
 /// What the offer gets on a copy of the tables where the booking is cancelled.
-fn offer_without(links: &[Link], held: &Tables, number: u32, request: &Request) -> Result<Start, u32> {
+fn offer_without(links: &[Link], held: &Tables, number: u32, request: &Request) -> Result<Start, Refused> {
     let mut held = held.clone();
     assert_eq!(exported::cancel(links, &mut held, number), Ok(()), "cancelling {number}");
     exported::offer(links, &held, request)
 }
 
 /// What the independent desk then offers; none where it would have to try too many minutes.
-fn by_every_minute(desk: &Desk, number: u32, request: &Request) -> Option<Result<Start, u32>> {
+fn by_every_minute(desk: &Desk, number: u32, request: &Request) -> Option<Result<Start, Refused>> {
     let mut desk = desk.clone();
     desk.cancel(number).expect("a standing booking");
     let walk = desk.last_tried(request, Walk::ToLastEvent) - desk.low(request);

@@ -1,11 +1,12 @@
 //! The choice and the listing of the independent desk against others: the same by their words, minute by minute and span by
 //! span; with candidate minutes only; and paths found by listing all of them.
 
+use desk_tests::break_offs;
 use desk_tests::calls::often_short_guard;
 use desk_tests::listings;
-use desk_tests::plain::{best_path, Booking, Desk, Range, Start, Walk};
+use desk_tests::plain::{best_path, Booking, Call, Desk, Range, Start, Walk};
 use desk_tests::{Link, Request};
-use support::Random;
+use support::{assert_enough, Random};
 
 const SEED: u64 = 0x0DE5_0002;
 
@@ -40,6 +41,17 @@ fn literal(desk: &Desk, request: &Request) -> Option<Start> {
         let enough = |link: u32| (minute..end).all(|m| desk.residual(link, m) >= request.bandwidth as i64);
         best(&desk.links, &enough, request.from, request.to).map(|path| Start { minute, path })
     })
+}
+
+/// The break-off in the words of document 02: the first minute from low on such that no single path has the bandwidth free
+/// throughout low to it. Paths are tried one by one.
+fn literal_break_off(desk: &Desk, request: &Request) -> u32 {
+    let low = desk.low(request);
+    let lasts = |minute: u32| {
+        let enough = |link: u32| (low..=minute).all(|m| desk.residual(link, m) >= request.bandwidth as i64);
+        !paths(&desk.links, &enough, request.from, request.to, &mut Vec::new()).is_empty()
+    };
+    (low..low + request.duration + desk.guard).find(|&minute| !lasts(minute)).expect("no path from low on lasts")
 }
 
 /// Whether a listing is right in document 02's words: each possible minute of the window is in exactly one range and no
@@ -146,6 +158,25 @@ fn every_minute_agrees_with_the_words_and_with_candidates() {
     }
     println!("{at_low} starts at low, {possible} later, {impossible} impossible");
     assert!(at_low > 2_000 && possible > 2_000 && impossible > 2_000, "{at_low}, {possible}, {impossible}");
+}
+
+#[test]
+fn break_offs_agree_with_the_words() {
+    let mut counts = break_offs::Counts::default();
+    for turn in 0..300_000 {
+        let seed = SEED + 0x40_0000 + turn;
+        let mut random = Random::new(seed);
+        let (desk, request) = small(&mut random);
+        let short = Request { latest: desk.low(&request) + random.below(4) as u32, ..request };
+        if desk.choose(&short, Walk::ToLatest).is_some() {
+            continue;
+        }
+        let at = desk.break_off(&short);
+        assert_eq!(at, literal_break_off(&desk, &short), "seed {seed:#x}, {short:?}, {desk:?}");
+        counts.add(&desk, &Call::Offer(short), &desk.clone().answer(&Call::Offer(short)));
+    }
+    println!("{}", counts.told());
+    assert_enough(&counts.enough(), SEED);
 }
 
 fn small(random: &mut Random) -> (Desk, Request) {

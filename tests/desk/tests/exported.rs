@@ -1,6 +1,7 @@
 //! The exported calls of the proved desk against the independent one: every answer, and every figure of every table after
 //! each call.
 
+use desk_tests::break_offs;
 use desk_tests::calls::{bad_link, guard, list_size, long_guard, net, pick, style};
 use desk_tests::cases::cases;
 use desk_tests::damages::{damage, forged, other_guards, resize};
@@ -40,7 +41,8 @@ fn the_worked_examples() {
 
 #[test]
 fn random_histories() {
-    let (mut calls, mut sampled, mut counts, mut guards) = (0u32, 0u32, Listings::default(), guards::Counts::default());
+    let (mut calls, mut sampled, mut counts) = (0u32, 0u32, Listings::default());
+    let (mut guards, mut break_offs) = (guards::Counts::default(), break_offs::Counts::default());
     for seed in SEED.. {
         let (mut random, _seed) = (Random::new(seed), Seed(seed));
         let mut history = History::new(seed);
@@ -52,6 +54,7 @@ fn random_histories() {
             same(&before.links, &mut held, &call, &answer, &history.desk, &what);
             counts.add(&call, &answer);
             guards.add(&before, &call, &answer, &history.desk);
+            break_offs.add(&before, &call, &answer);
             if random.once_in(10) {
                 let request = history.listed();
                 sampled += right_listing(&mut random, &history.desk, &mut held, &request, &what);
@@ -70,6 +73,7 @@ fn random_histories() {
     assert!([4, 5, 13].iter().all(|&refusal: &usize| refused[refusal] >= 100), "{refused:?}");
     println!("calls by guard: {:?}", guards.by_guard);
     println!("{}", guards.of_calls());
+    println!("{}", break_offs.told());
     let enough = [
         ("calls under each guard", *guards.by_guard.iter().min().expect("a guard"), 5_000),
         ("listed otherwise by a guard", guards.listed_otherwise, 1_000),
@@ -80,6 +84,7 @@ fn random_histories() {
     ];
     assert_enough(&enough, SEED);
     assert_enough(&guards.of_orders_enough(), SEED);
+    assert_enough(&break_offs.enough(), SEED);
 }
 
 /// How often the calls were listings, and what these answered.
@@ -99,7 +104,7 @@ impl Listings {
                 self.ranges += ranges.len();
                 self.several += (ranges.len() > 1) as u32;
             }
-            (Call::List(..), Answer::Refused(refusal)) => self.refused[*refusal as usize] += 1,
+            (Call::List(..), Answer::Refused(refused)) => self.refused[refused.number as usize] += 1,
             _ => {}
         }
     }
@@ -112,10 +117,11 @@ fn right_listing(random: &mut Random, desk: &Desk, held: &mut Tables, request: &
     let answer = exported::answer(&desk.links, held, &call);
     assert!(*held == tables::of(desk), "{what}: {call:?} leaves other tables");
     match (desk.check(request), answer) {
-        (Err(refusal), answer) => assert_eq!(answer, Answer::Refused(refusal), "{what}: {call:?}"),
+        (Err(refusal), answer) => assert_eq!(answer, Answer::refused(refusal), "{what}: {call:?}"),
         (Ok(()), Answer::Listed(ranges)) => {
             assert_eq!(listings::fault(random, desk, request, &ranges), None, "{what}: {call:?}");
-            let offered = exported::offer(&desk.links, held, request).map(|start| start.minute);
+            let offered = exported::offer(&desk.links, held, request);
+            let offered = offered.map(|start| start.minute).map_err(|refused| refused.number);
             assert_eq!(ranges.first().map(|range| range.first).ok_or(8), offered, "{what}: {call:?} and the offer");
             return 1;
         }
@@ -132,7 +138,7 @@ fn judged(links: &[Link], held: &mut Tables, call: &Call, what: &str) -> u32 {
         Err(refusal) => {
             let refusal = if refusal == 3 && another_length { 13 } else { refusal };
             let before = held.clone();
-            assert_eq!(exported::answer(links, held, call), Answer::Refused(refusal), "{what}: {call:?}");
+            assert_eq!(exported::answer(links, held, call), Answer::refused(refusal), "{what}: {call:?}");
             assert!(*held == before, "{what}: {call:?} is refused and writes");
             refusal
         }

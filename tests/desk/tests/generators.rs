@@ -1,5 +1,6 @@
 //! What the generated sessions, histories and damages contain, and that the tables of a history are sound.
 
+use desk_tests::break_offs;
 use desk_tests::damages::{damage, forged, other_guards};
 use desk_tests::guards;
 use desk_tests::lines::{answer, line, opening, output, read_order};
@@ -7,7 +8,7 @@ use desk_tests::listings::{self, KINDS};
 use desk_tests::plain::{Answer, Booking, Call, Desk};
 use desk_tests::sessions::{fullest, session, History};
 use desk_tests::tables::{self, Tables};
-use desk_tests::{Link, MAX_DURATION, MAX_GUARD, MAX_MINUTE};
+use desk_tests::{Link, Refused, MAX_DURATION, MAX_GUARD, MAX_MINUTE};
 use support::{assert_enough, Random, Seed};
 
 const SESSIONS: u64 = 3_000;
@@ -48,11 +49,11 @@ impl Counts {
         self.orders += 1;
         self.cut_off += (piece.len() < 16) as u32;
         match (read_order(piece), answer) {
-            (order, Answer::Refused(refusal)) => {
-                self.refused[*refusal as usize] += 1;
-                self.six_on_a_full_book += (*refusal == 6 && desk.bookings.len() == 64) as u32;
+            (order, Answer::Refused(Refused { number, .. })) => {
+                self.refused[*number as usize] += 1;
+                self.six_on_a_full_book += (*number == 6 && desk.bookings.len() == 64) as u32;
                 if let Ok(Call::Book(_, request) | Call::Offer(request)) = order {
-                    self.too_long += (*refusal == 4 && request.duration == MAX_DURATION + 1) as u32;
+                    self.too_long += (*number == 4 && request.duration == MAX_DURATION + 1) as u32;
                 }
             }
             (Ok(Call::Book(_, request)), Answer::Booked(start)) => {
@@ -95,6 +96,7 @@ impl Counts {
 #[test]
 fn sessions_cover_everything() {
     let (mut counts, mut guards) = (Counts::default(), guards::Counts::default());
+    let mut break_offs = break_offs::Counts::default();
     for seed in SEED..SEED + SESSIONS {
         let _seed = Seed(seed);
         let input = session(seed);
@@ -117,6 +119,7 @@ fn sessions_cover_everything() {
             counts.order(&before, &desk, piece, &answer);
             if let Ok(call) = read_order(piece) {
                 guards.add(&before, &call, &answer, &desk);
+                break_offs.add(&before, &call, &answer);
             }
             assert_eq!(lines.next(), Some(line(place + 1, piece, &answer).as_str()), "seed {seed:#x}");
         }
@@ -125,6 +128,7 @@ fn sessions_cover_everything() {
     println!("{counts:#?}");
     println!("orders by guard: {:?}", guards.by_guard);
     println!("{}", guards.of_orders());
+    println!("{}", break_offs.told());
     let Counts { refused, desk_refused, .. } = &counts;
     for refusal in 4..=12 {
         assert!(refused[refusal] >= 300, "refusal {refusal}: {}", refused[refusal]);
@@ -160,6 +164,7 @@ fn sessions_cover_everything() {
     ];
     assert_enough(&enough, SEED);
     assert_enough(&guards.of_orders_enough(), SEED);
+    assert_enough(&break_offs.enough(), SEED);
 }
 
 #[test]
@@ -194,8 +199,8 @@ fn tables_of_histories_are_sound_and_read_back() {
                 Call::List(..) => 6,
             };
             calls[kind] += 1;
-            if let Answer::Refused(refusal) = answer {
-                refused[refusal as usize] += 1;
+            if let Answer::Refused(Refused { number, .. }) = answer {
+                refused[number as usize] += 1;
             }
             for minute in history.desk.events() {
                 let literal: Vec<i64> =

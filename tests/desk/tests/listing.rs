@@ -89,7 +89,8 @@ fn desks_of_many_kinds() {
             let ranges = list(&desk.links, &held, LIST_FIGURES, &request, &what);
             let ranges = ranges.unwrap_or_else(|refusal| panic!("{what}: refused {refusal}"));
             assert_eq!(listings::fault(&mut random, &desk, &request, &ranges), None, "{what}");
-            let offered = exported::offer(&desk.links, &held, &request).map(|Start { minute, .. }| minute);
+            let offered = exported::offer(&desk.links, &held, &request);
+            let offered = offered.map(|Start { minute, .. }| minute).map_err(|refused| refused.number);
             assert_eq!(ranges.first().map(|range| range.first).ok_or(8), offered, "{what}: the offer");
             counts.add(&desk, &request, &ranges);
         }

@@ -4,13 +4,13 @@ use desk_tests::cases::cases;
 use desk_tests::lines::{link_bytes, opening, order_bytes, output, read_link, read_order};
 use desk_tests::plain::{Answer, Call, Desk};
 use desk_tests::tables;
-use desk_tests::{Head, Link, Request};
+use desk_tests::{Head, Link, Refused, Request};
 use support::Random;
 
 const SESSION: &str = "desk links 3
 1 booked 7 start 0 links 2
 2 booked 9 start 0 links 0 1
-3 refused 8
+3 refused 8 at 2
 4 booked 3 start 5 links 0 1
 5 cancelled 9
 6 offer start 0 links 0 1
@@ -219,7 +219,8 @@ fn every_guard() {
     for guard in 0..=15 {
         let mut desk = Desk::set_up(&links, guard).expect("a guard of 0 to 15");
         assert_eq!(desk.book(1, &whole).map(|start| start.minute), Ok(0));
-        assert_eq!(desk.offer(&Request { latest: 9 + guard, ..whole }), Err(8), "guard {guard}");
+        let early = desk.offer(&Request { latest: 9 + guard, ..whole });
+        assert_eq!(early, Err(Refused { number: 8, at: 0 }), "guard {guard}");
         assert_eq!(desk.book(2, &whole).map(|start| start.minute), Ok(10 + guard));
         assert_eq!(desk.events(), [0, 10 + guard, 20 + 2 * guard]);
         assert_eq!(
@@ -227,10 +228,28 @@ fn every_guard() {
             (Ok(0), Ok(0), Ok(10))
         );
         desk.move_clock(9 + guard).expect("a later minute");
-        assert_eq!(desk.book(1, &whole), Err(6));
+        assert_eq!(desk.book(1, &whole), Err(6.into()));
         desk.move_clock(10 + guard).expect("a later minute");
         assert_eq!(desk.cancel(1), Err(9));
         assert_eq!((desk.show(0, 1_000_525_615), desk.show(0, 1_000_525_616)), (Ok(10), Err(4)));
     }
     assert_eq!(Desk::set_up(&links, 16), Err(4));
+}
+
+/// Every guard there is, with ten minutes asked for beside a booking of minutes 60 to 69: from the last start before it, whose
+/// guard ends there, to the first behind it.
+#[test]
+fn break_offs_under_every_guard() {
+    let links = [Link { from: 0, to: 1, capacity: 10 }];
+    for guard in 0..=15 {
+        let mut desk = Desk::set_up(&links, guard).expect("a guard of 0 to 15");
+        let at = |minute| Request { from: 0, to: 1, bandwidth: 10, duration: 10, earliest: minute, latest: minute };
+        assert_eq!(desk.book(1, &at(60)).map(|start| start.minute), Ok(60));
+        let offered = |minute| desk.offer(&at(minute)).map(|start| start.minute);
+        assert_eq!(offered(50 - guard), Ok(50 - guard));
+        for minute in 51 - guard..70 + guard {
+            assert_eq!(offered(minute), Err(Refused { number: 8, at: minute.max(60) }), "guard {guard}");
+        }
+        assert_eq!(offered(70 + guard), Ok(70 + guard));
+    }
 }

@@ -16,7 +16,12 @@ pub enum Report {
     Cancelled(u32),
     Clock(u32),
     Refused(u32),
+    /// With the minute at which every path breaks off.
+    RefusedAt(u32, u32),
 }
+
+/// The first number that is no kind.
+pub const NO_KIND: u32 = 8;
 
 mod exported {
     /// A minute, as the library passes it.
@@ -48,7 +53,14 @@ pub fn write_line(out: &mut [u8], at: usize, place: u64, report: Report, links: 
         Report::Cancelled(number) => (4, number, 0),
         Report::Clock(minute) => (5, 0, minute),
         Report::Refused(refusal) => (6, refusal, 0),
+        Report::RefusedAt(refusal, minute) => (7, refusal, minute),
     };
+    write_kind(out, at, place, (kind, figure, minute), links)
+}
+
+/// The same by the number of a kind, with its figure and its minute.
+pub fn write_kind(out: &mut [u8], at: usize, place: u64, report: (u32, u32, u32), links: &[u32]) -> usize {
+    let (kind, figure, minute) = report;
     unsafe {
         exported::gcr_write_line(
             out.as_mut_ptr(),
@@ -64,7 +76,7 @@ pub fn write_line(out: &mut [u8], at: usize, place: u64, report: Report, links: 
     }
 }
 
-/// The line as document 01 prints it.
+/// The line as documents 01 and 02 print it.
 pub fn plain_line(place: u64, report: Report, links: &[u32]) -> String {
     let numbers: Vec<String> = links.iter().map(|link| format!(" {link}")).collect();
     let route = numbers.concat();
@@ -76,5 +88,6 @@ pub fn plain_line(place: u64, report: Report, links: &[u32]) -> String {
         Report::Cancelled(number) => format!("{place} cancelled {number}\n"),
         Report::Clock(minute) => format!("{place} clock {minute}\n"),
         Report::Refused(refusal) => format!("{place} refused {refusal}\n"),
+        Report::RefusedAt(refusal, minute) => format!("{place} refused {refusal} at {minute}\n"),
     }
 }

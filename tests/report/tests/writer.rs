@@ -1,6 +1,6 @@
 //! The exported writer against the independent one, and against the session of document 01.
 
-use report_tests::{plain_line, write_line, Report, MAX_LINE, PATH_LINKS};
+use report_tests::{plain_line, write_kind, write_line, Report, MAX_LINE, NO_KIND, PATH_LINKS};
 use support::Random;
 
 const SEED: u64 = 0x5EED_0007;
@@ -21,13 +21,14 @@ fn figure(random: &mut Random) -> u32 {
 }
 
 fn report(random: &mut Random) -> Report {
-    match random.below(7) {
+    match random.below(8) {
         0 => Report::DeskLinks(figure(random)),
         1 => Report::DeskRefused(figure(random)),
         2 => Report::Booked(figure(random), figure(random)),
         3 => Report::Offered(figure(random)),
         4 => Report::Cancelled(figure(random)),
         5 => Report::Clock(figure(random)),
+        6 => Report::RefusedAt(figure(random), figure(random)),
         _ => Report::Refused(figure(random)),
     }
 }
@@ -54,7 +55,7 @@ fn session_of_document_01() {
         (0, Report::DeskLinks(3), &[]),
         (1, Report::Booked(7, 0), &[2]),
         (2, Report::Booked(9, 0), &[0, 1]),
-        (3, Report::Refused(8), &[]),
+        (3, Report::RefusedAt(8, 2), &[]),
         (4, Report::Booked(3, 5), &[0, 1]),
         (5, Report::Cancelled(9), &[]),
         (6, Report::Offered(0), &[0, 1]),
@@ -66,9 +67,37 @@ fn session_of_document_01() {
     for (place, report, links) in lines {
         next = write_line(&mut out, next, place, report, links);
     }
-    let expected = "desk links 3\n1 booked 7 start 0 links 2\n2 booked 9 start 0 links 0 1\n3 refused 8\n\
+    let expected = "desk links 3\n1 booked 7 start 0 links 2\n2 booked 9 start 0 links 0 1\n3 refused 8 at 2\n\
         4 booked 3 start 5 links 0 1\n5 cancelled 9\n6 offer start 0 links 0 1\n7 clock 10\n8 refused 9\n";
     assert_eq!(String::from_utf8_lossy(&out[..next]), expected);
+}
+
+/// A minute is printed beside any number, 0 and the largest too.
+#[test]
+fn refusals_with_a_minute() {
+    let mut out = vec![0; MAX_LINE];
+    for number in [0, 1, 8, 15, u32::MAX] {
+        for minute in [0, 1, 9, 10, 1_000_525_614, u32::MAX] {
+            same_line(&mut out, 0, 7, Report::RefusedAt(number, minute), &[]);
+            same_line(&mut out, 0, u64::MAX, Report::RefusedAt(number, minute), &[u32::MAX; PATH_LINKS]);
+        }
+    }
+    let next = write_line(&mut out, 0, 12, Report::RefusedAt(8, 0), &[3]);
+    assert_eq!(&out[..next], b"12 refused 8 at 0\n");
+    let next = write_line(&mut out, 0, 12, Report::RefusedAt(8, u32::MAX), &[]);
+    assert_eq!(&out[..next], b"12 refused 8 at 4294967295\n");
+}
+
+/// A number that is no kind is a refusal with no minute beside it.
+#[test]
+fn numbers_that_are_no_kind() {
+    let mut out = vec![0; MAX_LINE];
+    for kind in [NO_KIND, NO_KIND + 1, 255, 256, 1 << 31, u32::MAX] {
+        for minute in [0, 2, u32::MAX] {
+            let next = write_kind(&mut out, 0, 3, (kind, 8, minute), &[1, 2]);
+            assert_eq!(&out[..next], b"3 refused 8\n", "kind {kind}, minute {minute}");
+        }
+    }
 }
 
 #[test]

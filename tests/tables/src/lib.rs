@@ -41,7 +41,7 @@ mod exported {
             link: u32,
             bandwidth: u32,
         );
-        pub fn has_bandwidth(
+        pub fn first_missing(
             events: *const u32,
             events_len: usize,
             free: *const u32,
@@ -50,7 +50,7 @@ mod exported {
             end: u32,
             link: u32,
             bandwidth: u32,
-        ) -> bool;
+        ) -> u32;
     }
 }
 
@@ -105,9 +105,10 @@ impl Tables {
         unsafe { exported::take_bandwidth(events, EVENTS, free, FIGURES, start, end, link, bandwidth) }
     }
 
-    pub fn has_bandwidth(&self, start: u32, end: u32, link: u32, bandwidth: u32) -> bool {
+    /// The first minute from start to end - 1 at which the link has less than the bandwidth; `end` where there is none.
+    pub fn first_missing(&self, start: u32, end: u32, link: u32, bandwidth: u32) -> u32 {
         assert!(start < end && (link as usize) < LINKS);
         let (events, free) = (self.events.as_ptr(), self.free.as_ptr());
-        unsafe { exported::has_bandwidth(events, EVENTS, free, FIGURES, start, end, link, bandwidth) }
+        unsafe { exported::first_missing(events, EVENTS, free, FIGURES, start, end, link, bandwidth) }
     }
 }

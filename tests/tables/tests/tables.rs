@@ -1,7 +1,7 @@
 //! The exported tables against those counted from the bookings, on random desks. Each desk has a seed of its own, which a
 //! failure names.
 
-use support::Random;
+use support::{assert_enough, Random};
 use tables_tests::plain::{Booking, Desk};
 use tables_tests::{arrays, count_events, row_at, Tables, EVENTS, LINKS};
 
@@ -44,11 +44,37 @@ fn compare(tables: &Tables, desk: &Desk, seed: u64) {
     }
 }
 
-/// Whether a link has the bandwidth in every minute of a span, from the clock on. What is free changes only at events.
-fn free_throughout(desk: &Desk, start: u32, end: u32, link: u32, bandwidth: u32) -> bool {
-    let start = start.max(desk.clock);
-    let within = desk.events().into_iter().filter(|&e| start < e && e < end);
-    within.chain([start]).all(|minute| bandwidth <= desk.free(link, minute))
+/// The first minute of a span at which a link has less than the bandwidth; the span's end where there is none. A minute before
+/// the clock has what the clock's has.
+fn first_missing(desk: &Desk, start: u32, end: u32, link: u32, bandwidth: u32) -> u32 {
+    let lacks = |&minute: &u32| desk.free(link, minute.max(desk.clock)) < bandwidth;
+    (start..end).find(lacks).unwrap_or(end)
+}
+
+/// The same by the start and the events in the span alone, for long spans: what is free changes only at events.
+fn first_missing_event(desk: &Desk, start: u32, end: u32, link: u32, bandwidth: u32) -> u32 {
+    let within = desk.events().into_iter().filter(|&event| start < event && event < end);
+    let lacks = |&minute: &u32| desk.free(link, minute.max(desk.clock)) < bandwidth;
+    [start].into_iter().chain(within).find(lacks).unwrap_or(end)
+}
+
+/// How often the bandwidth was missing at a span's start, later in it, and nowhere; and later, in a span from before the clock.
+#[derive(Default, Debug)]
+struct Missing {
+    at_start: u32,
+    later: u32,
+    nowhere: u32,
+    later_from_before: u32,
+}
+
+impl Missing {
+    fn add(&mut self, desk: &Desk, start: u32, end: u32, minute: u32) {
+        let later = start < minute && minute < end;
+        self.at_start += (minute == start) as u32;
+        self.later += later as u32;
+        self.nowhere += (minute == end) as u32;
+        self.later_from_before += (later && start < desk.clock) as u32;
+    }
 }
 
 #[test]
@@ -63,11 +89,11 @@ fn random_bookings() {
         for _ in 0..count {
             let b = booking(random, &desk, reach);
             tables.insert_span(b.start, b.end);
-            let asked = tables.has_bandwidth(b.start, b.end, b.link, b.bandwidth);
-            let expected = free_throughout(&desk, b.start, b.end, b.link, b.bandwidth);
+            let asked = tables.first_missing(b.start, b.end, b.link, b.bandwidth);
+            let expected = first_missing_event(&desk, b.start, b.end, b.link, b.bandwidth);
             assert_eq!(asked, expected, "seed {seed}: {b:?} in {desk:?}");
             // One in eight is taken although there is too little: the figures then stop at 0.
-            if asked || random.once_in(8) {
+            if asked == b.end || random.once_in(8) {
                 tables.take_bandwidth(b.start, b.end, b.link, b.bandwidth);
                 desk.bookings.push(b);
             } else {
@@ -101,6 +127,7 @@ fn each_step_of_a_small_desk() {
 
 #[test]
 fn span_checks() {
+    let mut missing = Missing::default();
     for seed in 0..300 {
         let random = &mut Random::new(0x0C4E_C500 + seed);
         let mut desk = desk(random);
@@ -117,11 +144,22 @@ fn span_checks() {
             let b = booking(random, &desk, 30);
             let free = desk.free(b.link, b.start.max(desk.clock));
             let bandwidth = [1, free.max(1), free + 1, b.bandwidth][random.below(4) as usize];
-            let asked = tables.has_bandwidth(b.start, b.end, b.link, bandwidth);
-            let expected = free_throughout(&desk, b.start, b.end, b.link, bandwidth);
+            let asked = tables.first_missing(b.start, b.end, b.link, bandwidth);
+            let expected = first_missing(&desk, b.start, b.end, b.link, bandwidth);
             assert_eq!(asked, expected, "seed {seed}: {bandwidth} in {b:?} of {desk:?}");
+            let by_events = first_missing_event(&desk, b.start, b.end, b.link, bandwidth);
+            assert_eq!(by_events, expected, "by events, seed {seed}: {bandwidth} in {b:?} of {desk:?}");
+            missing.add(&desk, b.start, b.end, asked);
         }
     }
+    println!("{missing:?}");
+    let enough = [
+        ("missing at the start", missing.at_start, 5_000),
+        ("missing later", missing.later, 1_000),
+        ("missing nowhere", missing.nowhere, 5_000),
+        ("missing later than the clock, in a span from before it", missing.later_from_before, 300),
+    ];
+    assert_enough(&enough, 0x0C4E_C500);
 }
 
 #[test]

@@ -5,7 +5,7 @@ use std::io::{Read, Write};
 use desk_bench::fast::{self, Start, Tables};
 use desk_tests::lines::{read_link, read_order};
 use desk_tests::plain::Call;
-use desk_tests::{Head, Link, BOOKINGS, EVENTS, LINKS, PLACE, ROW};
+use desk_tests::{Head, Link, Refused, BOOKINGS, EVENTS, LINKS, PLACE, ROW};
 
 fn main() -> std::io::Result<()> {
     let mut input = Vec::new();
@@ -30,8 +30,10 @@ fn run(input: &[u8], out: &mut Vec<u8>) -> std::io::Result<()> {
     writeln!(out, "desk links {}", links.len())?;
     for (place, piece) in orders.chunks(16).enumerate() {
         write!(out, "{} ", place + 1)?;
-        if let Err(refusal) = order(&links, &mut tables, piece, out) {
-            writeln!(out, "refused {refusal}")?;
+        match order(&links, &mut tables, piece, out) {
+            Ok(()) => {}
+            Err(Refused { number: 8, at }) => writeln!(out, "refused 8 at {at}")?,
+            Err(Refused { number, .. }) => writeln!(out, "refused {number}")?,
         }
     }
     Ok(())
@@ -49,7 +51,7 @@ fn read_links(input: &[u8]) -> Result<(Vec<Link>, u32, &[u8]), u32> {
 }
 
 /// Runs one order and writes the line behind its place, unless it is refused.
-fn order(links: &[Link], tables: &mut Tables, piece: &[u8], out: &mut Vec<u8>) -> Result<(), u32> {
+fn order(links: &[Link], tables: &mut Tables, piece: &[u8], out: &mut Vec<u8>) -> Result<(), Refused> {
     match read_order(piece)? {
         Call::Book(number, request) => {
             let start = fast::book(links, tables, number, &request)?;
