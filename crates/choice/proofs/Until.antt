@@ -2,7 +2,7 @@
 -- from its start on breaks off.
 use mathlib.Core.Path.{◌≡◌, refl, sym, ◌∙◌, ap}
 use mathlib.Core.List.{List}
-use mathlib.Core.Bool.{Bool, true, false, false≢true}
+use mathlib.Core.Bool.{Bool, true, false}
 use Prim.Native.Nat.{ℕ, suc, ◌+◌, ◌-◌, ◌≤◌, ◌<◌}
 use native.Mathlib.Decide.{dec_lt}
 use native.Mathlib.Omega.{arith}
@@ -13,7 +13,6 @@ use borrow.Author.Tests.{le-leb, leb-true}
 use Rattle.std.proofs.Common.{Option}
 use Rattle.std.specs.Option.{is_some}
 use Rattle.units.specs.Limits.{most_links}
-use Rattle.units.specs.Search.{found_or}
 use Rattle.free_table.specs.Looking.{first_missing, Until}
 use Rattle.path_search.specs.declared.Path.{Path}
 use Rattle.path_search.specs.Paths.{Graph, route}
@@ -23,8 +22,8 @@ use Rattle.choice.specs.declared.asked.Asked.{Asked}
 use Rattle.choice.specs.Choice.{possible}
 use Rattle.choice.specs.Carrying.{carries}
 use Rattle.free_table.specs.Figures.{kept}
-use Rattle.choice.specs.BreakOff.{lasts, break_off}
-use Rattle.choice.specs.Answer.{wanted, break_off_of, AskableOf}
+use Rattle.choice.specs.BreakOff.{lasts}
+use Rattle.choice.specs.Answer.{break_off_of, AskableOf}
 use Rattle.choice.proofs.Possible.{possible_more}
 use Rattle.choice.proofs.BreakOff.{lasts_agree, break_off_at}
 use Rattle.choice.proofs.Lent.{until_carries}

@@ -1,6 +1,5 @@
 -- What the chooser is given and what it answers: the lent tables read as figures, and this paper's values of a choice.
 use Rattle.std.specs.Prelude.{List, [], Bool, Option, Some, None, Result, Ok, Err, ℕ, ◌≤◌}
-use Rattle.units.specs.declared.Minute.{Minute}
 use Rattle.units.specs.declared.Refused.{Refused}
 use Rattle.units.specs.declared.Refusal.TheVariants.{NoStart}
 use Rattle.units.specs.Limits.{last_shown}

@@ -66,7 +66,9 @@ impl Asked<'_, '_> {
         ensures { result ≡ found_path (route_of self.now start.0) }
     {
         let end = end_minute(start, self.search.span);
-        let until = self.table.until(Interval { start, end }, self.search.bandwidth);
+        let until = self
+            .table
+            .until(Interval { start, end }, self.search.bandwidth);
         self.path_until(&until, end)
     }
 
@@ -111,7 +113,9 @@ impl Asked<'_, '_> {
         ensures { result.0 ≡ break_off_of self.now low.0 }
     {
         let end = end_minute(low, self.search.span);
-        let until = self.table.until(Interval { start: low, end }, self.search.bandwidth);
+        let until = self
+            .table
+            .until(Interval { start: low, end }, self.search.bandwidth);
         let mut minute = low;
         while minute < end && self.path_until(&until, Minute(minute.0 + 1)).is_some() {
             minute = next_lacking(&until, minute, end);

@@ -1,5 +1,5 @@
 -- The desk has the examples of documents 01 and 02.
-use mathlib.Core.Path.{◌≡◌, refl, sym, ◌∙◌, ap, subst}
+use mathlib.Core.Path.{◌≡◌, refl, sym, ◌∙◌, ap}
 use mathlib.Core.Logic.{inl}
 use mathlib.Core.List.{List, [], ◌∷◌}
 use mathlib.Core.Bool.{and-eq-true_iff}

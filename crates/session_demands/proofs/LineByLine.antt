@@ -7,7 +7,7 @@ use Prim.Native.Nat.{ℕ, zero, suc, ◌+◌, ◌-◌, ◌*◌, ◌≤◌, ◌<�
 use native.Mathlib.Decide.{dec_lt}
 use native.Mathlib.Omega.{arith}
 use lib.Dec.{eqb}
-use lib.ListN.{length, drop, length-drop, length-append}
+use lib.ListN.{length, take, drop, length-drop, length-append}
 use Rattle.std.specs.Prelude.{codes, Result, Ok, Err}
 use Rattle.std.specs.Simd.{first_chunks}
 use Rattle.std.proofs.lemmas.List.{take_all, drop_all}
@@ -27,10 +27,11 @@ use Rattle.report.specs.declared.Report.TheVariants as reports
 use Rattle.report.specs.Decimal.{digits, decimal}
 use Rattle.report.specs.Line.{numbers, route, answer, line}
 use Rattle.report.proofs.Decimals.{only_digits}
-use Rattle.rules.specs.Calls.{Values}
+use Rattle.rules.specs.Calls.{Values, values}
 use Rattle.rules.specs.Tables.{Tables}
+use Rattle.rules.specs.Desk.{outcome}
 use Rattle.opening.specs.Opened.{first_byte, first_size, opened}
-use Rattle.orders.specs.Ordered.{answered as answered_order, by_reading, ordered, accepted, refused as refusal_report, line_of}
+use Rattle.orders.specs.Ordered.{call_of, answered as answered_order, by_reading, ordered, accepted, path_shown, refused as refusal_report, line_of}
 use Rattle.session.specs.Session.{Running, answered, lines, last_piece, orders, blank, started, session}
 use Rattle.session_demands.specs.Cutting.{AtBorder, reached, LineAt, LineByLine}
 use Rattle.session.proofs.Orders.{after_place, orders_short, orders_first, orders_front}
@@ -103,7 +104,9 @@ unfolding ordered answered_order
 ordered_line links t bytes place = by (order_read bytes)
   where
     by : (read : Result Order Refusal) → LineAt place (line_of place (by_reading links t read))
-    by (Ok order) = reported_line place _ order _ _
+    by (Ok order) =
+        let v = values (outcome links t (call_of order)).answer in
+        reported_line place (take (path_shown order v).count (path_shown order v).links) order v (eqb v.number 0)
     by (Err refusal) = refusal_line place [] (number refusal) 0
 
 -- ---- one order more

@@ -1,5 +1,5 @@
 -- break_off meets its contract: some path lasts throughout low to each minute before the loop's.
-use Prim.Native.Nat.{◌-◌, ◌≤◌}
+use Prim.Native.Nat.{◌-◌}
 use Rattle.choice.proofs.Until.{Broken}
 use Rattle.choice.proofs.asked.Asked.break_off.Given as goal
 

@@ -1,8 +1,7 @@
 -- path_at meets its contract: the links that last to the span's end carry it, and the route depends on nothing else.
-use mathlib.Core.Path.{◌≡◌, ◌∙◌, ap, subst}
-use Prim.Native.Nat.{◌+◌, ◌≤◌}
+use mathlib.Core.Path.{◌∙◌, ap, subst}
+use Prim.Native.Nat.{◌+◌}
 use native.Mathlib.Nat.{le_refl}
-use native.Mathlib.Omega.{arith}
 use borrow.Author.Rules.{rules}
 use Rattle.free_table.specs.Looking.{first_missing, Until}
 use Rattle.path_search.specs.Paths.{route}
