@@ -75,7 +75,7 @@ impl Counts {
             ("broken off at low", self.at_low, 5_000),
             ("broken off later, in the duration", self.in_span, 2_000),
             ("broken off in the guard's minutes", self.in_guard, 1_000),
-            ("broken off at minute 0", self.at_0, 300),
+            ("broken off at minute 0", self.at_0, 100),
             ("broken off without a chain", self.no_chain, 1_000),
             ("broken off where a link is free again", self.link_free_again, 400),
             ("broken off where a path is free again", self.path_free_again, 150),
