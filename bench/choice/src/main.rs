@@ -73,6 +73,10 @@ fn main() {
     let last_closed = tables(|_, link| if link == 60 { 6 } else { PLENTY });
     run("no start, short searches, one row", 10, &star(), &last_closed, ask(0, 31, 1));
     run("no start, short searches, all rows", 2, &star(), &last_closed, ask(0, 31, all_rows));
+    // each other link lacks it from an event of its own on, and that one from the hundredth: 64 searches for where it breaks off
+    let fewer = tables(|row, link| if row > if link == 60 { 100 } else { link } { 6 } else { PLENTY });
+    let at_once = Question { latest: 1, ..ask(0, 31, all_rows) };
+    run("no start in a window of one minute, a link less at each event", 10, &star(), &fewer, at_once);
     // the two links out of node 0 lack it everywhere: each search goes on to node 1
     let first_closed = tables(|_, link| if link % 32 == 0 { 6 } else { PLENTY });
     run("worst case, no start, long searches, all rows", 2, &line(), &first_closed, ask(0, 31, all_rows));

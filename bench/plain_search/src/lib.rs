@@ -1,6 +1,6 @@
 //! The path search in plain Rust, which the proved one is timed beside: distances to the destination, in rounds over the
-//! links as the library makes them or breadth-first with a queue, and the walk along them; how long the links last, and where every
-//! path breaks off.
+//! links as the library makes them or breadth-first with a queue, and the walk along them; how long the links last, and where
+//! every path breaks off.
 
 /// The most links of a desk, and the figures of a row.
 pub const LINKS: usize = 64;
@@ -44,8 +44,8 @@ pub fn until(events: &[u32], rows: &[u32], bandwidth: u32, start: u32, end: u32)
     until
 }
 
-/// The first minute from low on such that no path has the bandwidth up to it, or `end`: links change only where one of them lacks
-/// it first, and paths are searched only there, as in the library.
+/// The first minute from low on such that no path has the bandwidth throughout low to it, or `end`. Paths are searched only where
+/// a link lacks it first, as in the library.
 pub fn break_off(until: &Minutes, low: u32, end: u32, leads: impl Fn(&Usable) -> bool) -> u32 {
     let mut minute = low;
     while minute < end && leads(&until.map(|until| minute < until)) {

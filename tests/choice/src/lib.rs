@@ -35,8 +35,8 @@ pub struct Path {
     pub links: [u32; PATH_LINKS],
 }
 
-/// A choice: the number 0 with start and path, or a refusal number with zeros and the minute at which every path from low on breaks
-/// off.
+/// A choice: the number 0 with start and path, or a refusal number with zeros and the minute at which every path from low on
+/// breaks off; the end of low's span where one lasts.
 #[repr(C)]
 #[derive(Clone, Copy, Debug, PartialEq, Eq)]
 pub struct ChoiceRecord {

@@ -10,6 +10,8 @@ pub struct Counts {
     pub at_low: u32,
     pub in_span: u32,
     pub in_guard: u32,
+    /// The minute is 0, which is printed too.
+    pub at_0: u32,
     /// No chain of links leads to the destination.
     pub no_chain: u32,
     /// A link that lacked the bandwidth before has it again in this minute; all links of some path have it in this minute.
@@ -42,6 +44,7 @@ impl Counts {
         self.at_low += (at == low) as u32;
         self.in_span += (low < at && at < end) as u32;
         self.in_guard += (end <= at) as u32;
+        self.at_0 += (at == 0) as u32;
         self.no_chain += path(u64::MAX).is_none() as u32;
         self.link_free_again += (low < at && having(desk, request, at) & !lasting != 0) as u32;
         self.path_free_again += path(having(desk, request, at)).is_some() as u32;
@@ -52,11 +55,12 @@ impl Counts {
     /// The counts, for print.
     pub fn told(&self) -> String {
         format!(
-            "refused 8: {} break off at low, {} later in the duration, {} in the guard, {} without a chain; {} where a link is \
+            "refused 8: {} break off at low, {} later in the duration, {} in the guard, {} at minute 0, {} without a chain; {} where a link is \
              free again, {} where a path is; {} by another path than the best of low, {} before a later start of the window",
             self.at_low,
             self.in_span,
             self.in_guard,
+            self.at_0,
             self.no_chain,
             self.link_free_again,
             self.path_free_again,
@@ -66,11 +70,12 @@ impl Counts {
     }
 
     /// The same, each with the least that will do.
-    pub fn enough(&self) -> [(&'static str, u32, u32); 8] {
+    pub fn enough(&self) -> [(&'static str, u32, u32); 9] {
         [
             ("broken off at low", self.at_low, 5_000),
             ("broken off later, in the duration", self.in_span, 2_000),
             ("broken off in the guard's minutes", self.in_guard, 1_000),
+            ("broken off at minute 0", self.at_0, 100),
             ("broken off without a chain", self.no_chain, 1_000),
             ("broken off where a link is free again", self.link_free_again, 400),
             ("broken off where a path is free again", self.path_free_again, 150),

@@ -272,8 +272,17 @@ fn near_event(random: &mut Random, desk: &Desk) -> u32 {
     }
 }
 
-/// A request whose ends mostly are nodes of the net. A booking of a year is left to the styles in which no walk grows long.
+/// Any request; one in eight mostly meets a booking.
 fn request(random: &mut Random, style: Style, desk: &Desk, stands: bool) -> Request {
+    let request = any_request(random, style, desk, stands);
+    if random.once_in(8) {
+        return meeting_a_booking(random, desk, request);
+    }
+    request
+}
+
+/// A request whose ends mostly are nodes of the net. A booking of a year is left to the styles in which no walk grows long.
+fn any_request(random: &mut Random, style: Style, desk: &Desk, stands: bool) -> Request {
     let (from, to) = ends(random, style, desk);
     let duration = match random.below(100) {
         0 => 0,
@@ -307,11 +316,7 @@ fn request(random: &mut Random, style: Style, desk: &Desk, stands: bool) -> Requ
         41..=65 if style != Style::Long => OPEN,
         _ => (low + random.within(1, 25) as u32).min(low.max(MAX_MINUTE)),
     };
-    let request = Request { from, to, bandwidth: bandwidth(random, style, desk, low), duration, earliest, latest };
-    if random.once_in(8) {
-        return meeting_a_booking(random, desk, request);
-    }
-    request
+    Request { from, to, bandwidth: bandwidth(random, style, desk, low), duration, earliest, latest }
 }
 
 /// The request between the ends of a booking that starts later than its low, if there is one: with one more than some link of

@@ -1,14 +1,15 @@
 //! The exported listing against the independent desk, on desks of many kinds: the ranges, the lent list, and what is left
 //! alone; and its refusals, alone and with others.
 
+use desk_tests::break_offs;
 use desk_tests::calls::list_size;
 use desk_tests::damages::{damage, resize};
 use desk_tests::exported;
 use desk_tests::guards::GUARDS;
 use desk_tests::listings::{self, KINDS};
-use desk_tests::plain::{Desk, Range, Start};
+use desk_tests::plain::{Answer, Call, Desk, Range, Start};
 use desk_tests::tables::{self, Tables};
-use desk_tests::{Link, Request, BOOKINGS, EVENTS, LINKS, LIST_FIGURES, MAX_DURATION, MAX_MINUTE};
+use desk_tests::{Link, Refused, Request, BOOKINGS, EVENTS, LINKS, LIST_FIGURES, MAX_DURATION, MAX_MINUTE};
 use support::{assert_enough, Random, Seed};
 
 const SEED: u64 = 0x0DE5_7000;
@@ -74,10 +75,11 @@ impl Counts {
     }
 }
 
-/// Ranges are right, their first start is the offer's, and there is none exactly if an offer is refused 8.
+/// Ranges are right, their first start is the offer's, and there is none exactly if an offer is refused 8, with the minute of the
+/// independent desk.
 #[test]
 fn desks_of_many_kinds() {
-    let mut counts = Counts::default();
+    let (mut counts, mut break_offs) = (Counts::default(), break_offs::Counts::default());
     for seed in SEED..SEED + DESKS {
         let (mut random, _seed) = (Random::new(seed), Seed(seed));
         let kind = KINDS[seed as usize % KINDS.len()];
@@ -89,13 +91,20 @@ fn desks_of_many_kinds() {
             let ranges = list(&desk.links, &held, LIST_FIGURES, &request, &what);
             let ranges = ranges.unwrap_or_else(|refusal| panic!("{what}: refused {refusal}"));
             assert_eq!(listings::fault(&mut random, &desk, &request, &ranges), None, "{what}");
-            let offered = exported::offer(&desk.links, &held, &request);
-            let offered = offered.map(|Start { minute, .. }| minute).map_err(|refused| refused.number);
-            assert_eq!(ranges.first().map(|range| range.first).ok_or(8), offered, "{what}: the offer");
+            let offered = exported::offer(&desk.links, &held, &request).map(|Start { minute, .. }| minute);
+            match ranges.first() {
+                Some(range) => assert_eq!(offered, Ok(range.first), "{what}: the offer"),
+                None => {
+                    let at = desk.break_off(&request);
+                    assert_eq!(offered, Err(Refused { number: 8, at }), "{what}: the offer");
+                    break_offs.add(&desk, &Call::Offer(request), &Answer::no_start(at));
+                }
+            }
             counts.add(&desk, &request, &ranges);
         }
     }
     println!("{counts:#?}");
+    println!("{}", break_offs.told());
     let enough = [
         ("listings", counts.listings, 20_000),
         ("listings under each guard", *counts.by_guard.iter().min().expect("a guard"), 500),
@@ -113,6 +122,10 @@ fn desks_of_many_kinds() {
         ("bandwidth just free", counts.just_free, 1_000),
         ("one more", counts.one_more, 1_000),
         ("windows tried at every minute", counts.short_windows, 1_000),
+        ("broken off at low", break_offs.at_low, 1_000),
+        ("broken off later, in the duration", break_offs.in_span, 300),
+        ("broken off in the guard's minutes", break_offs.in_guard, 100),
+        ("broken off where a link is free again", break_offs.link_free_again, 100),
     ];
     assert_enough(&enough, SEED);
     assert!(counts.most_ranges >= 20, "{counts:?}");
