@@ -10,8 +10,8 @@ use native.Mathlib.Decide.{dec_lt}
 use native.Mathlib.Omega.{arith}
 use Rattle.std.proofs.Common.{Result, Ok}
 use Rattle.units.specs.Limits.{last_node}
-use Rattle.units.proofs.Tests.{Tells, at_most, order, less, same, more}
-use Rattle.units.proofs.Search.{clash, all_from_all, all_allFrom}
+use Rattle.units.proofs.Tests.{Tells, at_most}
+use Rattle.units.proofs.Search.{clash, all_from_all, all_allFrom, one_failing}
 use Rattle.units.proofs.Parts.{all_map, all_at}
 use Rattle.timeline.specs.Events.{events}
 use Rattle.timeline.proofs.Steady.{ChangesAt}
@@ -99,11 +99,7 @@ module _ (g : Graph) (figure : ℕ → ℕ → ℕ) (bandwidth duration source d
 
   -- there is one such minute
   pub breaks_off_only : {low : ℕ} (m n : ℕ) → BreaksOff g figure bandwidth duration source destination low m → BreaksOff g figure bandwidth duration source destination low n → m ≡ n
-  breaks_off_only m n b d = elim (order m n) [
-    | less h ↦ absurd (let p = d.lasts_before m b.from_low h in b.none_lasts p.0 p.1)
-    | same h ↦ h
-    | more h ↦ absurd (let p = b.lasts_before n d.from_low h in d.none_lasts p.0 p.1)
-  ]
+  breaks_off_only m n b d = one_failing m n b.from_low d.from_low (λ w. b.none_lasts w.0 w.1) (λ w. d.none_lasts w.0 w.1) b.lasts_before d.lasts_before
 
   module _ (low latest : ℕ) where
     abbrev RightAnswer : Result Granted Refused → Type 0

@@ -2,6 +2,7 @@
 pub mod Lawful
 pub mod Demand1
 pub mod Demand2
+pub mod Breaking
 pub mod Demand3
 pub mod Replies
 pub mod SameMinute
