@@ -55,8 +55,9 @@ impl Counts {
     /// The counts, for print.
     pub fn told(&self) -> String {
         format!(
-            "refused 8: {} break off at low, {} later in the duration, {} in the guard, {} at minute 0, {} without a chain; {} where a link is \
-             free again, {} where a path is; {} by another path than the best of low, {} before a later start of the window",
+            "refused 8: {} break off at low, {} later in the duration, {} in the guard, {} at minute 0, {} without a chain; {} \
+             where a link is free again, {} where a path is; {} by another path than the best of low, {} before a later start \
+             of the window",
             self.at_low,
             self.in_span,
             self.in_guard,
