@@ -17,14 +17,19 @@ pub struct FreeTable<'a> {
     pub ghost sized: { TablesSized events.now figures.now },
 }
 
-// For each link that has less than the bandwidth in a row, the row's first minute.
+// For each link that has less than the bandwidth in a row, the row's first minute. Out of line and with no branch it is
+// compiled for several links at a time.
+#[inline(never)]
 fn end_at_lacking(until: &mut [u32; LINKS], row: &[u32; ROW], bandwidth: Bandwidth, minute: Minute)
     ensures { (l : ℕ) → l < most_links → get_or until.new l 0 ≡ cond (ltb (get_or row.now l 0) bandwidth.0) minute.0 (get_or until.old l 0) }
 {
-    for (link, last) in until.iter_mut().enumerate() {
-        if row[link] < bandwidth.0 {
-            *last = minute.0;
-        }
+    for link in 0..LINKS {
+        let kept = until[link];
+        until[link] = if row[link] < bandwidth.0 {
+            minute.0
+        } else {
+            kept
+        };
     }
 }
 
