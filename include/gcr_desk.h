@@ -39,10 +39,10 @@ struct gcr_head {
     uint32_t guard;
 };
 
-/* A start with its path, `count` link numbers in travel order and zero past them; all zero beside a refusal number. Beside 8
- * `at` is the minute at which it breaks off: the first, from the earliest that can be tried on, such that no single path has
- * the bandwidth free throughout from that one to this one. It may be one of the guard's minutes. Beside a start and any other
- * refusal `at` is zero. */
+/* A start with its path, `count` link numbers in travel order and zero past them; start and path are zero beside a refusal
+ * number. Beside 8 `at` is the minute at which it breaks off: the first, from low on (the later of the earliest start asked for
+ * and the clock), such that no single path has the bandwidth free throughout low to it. It may be one of the guard's minutes.
+ * Beside a start and any other refusal `at` is zero. */
 struct gcr_choice {
     uint32_t refusal;
     uint32_t start;

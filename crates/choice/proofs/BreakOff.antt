@@ -28,35 +28,35 @@ passes_then true e = refl
 passes_then false e = clash refl e
 
 module _ (g : Graph) (carries : ℕ → ℕ → ℕ → Bool) (from to n low : ℕ) where
-  abbrev lasts_to : ℕ → Bool
-  lasts_to = lasts g carries from to low
+  abbrev lasts_through : ℕ → Bool
+  lasts_through = lasts g carries from to low
 
   abbrev broken : ℕ → Bool
-  broken m = not (lasts_to m)
+  broken m = not (lasts_through m)
 
   -- a path lasts throughout low to each minute before m, and none throughout low to m
   pub record IsBreakOff (m : ℕ) : Type 0 where
     pub from_low : low ≤ m
     pub inside : m < low + n
-    pub none_lasts : lasts_to m ≡ false
-    pub lasts_before : (k : ℕ) → low ≤ k → k < m → lasts_to k ≡ true
+    pub none_lasts : lasts_through m ≡ false
+    pub lasts_before : (k : ℕ) → low ≤ k → k < m → lasts_through k ≡ true
 
   -- so it is where no path lasts throughout the n minutes
   pub break_off_is : 1 ≤ n → possible g (carries n) from to low ≡ false → IsBreakOff (break_off g carries from to n low)
   unfolding break_off
   break_off_is some none = by (first_from low n broken) refl
     where
-      last : lasts_to (low + n - 1) ≡ false
+      last : lasts_through (low + n - 1) ≡ false
       last = let all : suc (low + n - 1) - low ≡ n = omega arith in ap (λ k. possible g (carries k) from to low) all ∙ none
 
       by : (f : Found) → first_from low n broken ≡ f → IsBreakOff (found_or (low + n) f)
       by (at m) e =
           let r : IsFirst low n broken m = first_from_found broken low n e in
-          record { from_low = r.low; inside = r.high; none_lasts = fails_then (lasts_to m) r.passes; lasts_before = λ k a b. passes_then (lasts_to k) (r.before k a b) }
-      by nothing e = clash (passes_then (lasts_to (low + n - 1)) (first_from_none broken low n e (low + n - 1) (omega arith) (omega arith))) last
+          record { from_low = r.low; inside = r.high; none_lasts = fails_then (lasts_through m) r.passes; lasts_before = λ k a b. passes_then (lasts_through k) (r.before k a b) }
+      by nothing e = clash (passes_then (lasts_through (low + n - 1)) (first_from_none broken low n e (low + n - 1) (omega arith) (omega arith))) last
 
   -- a loop that has found paths up to m, and none beyond, has come to it
-  pub break_off_at : (m : ℕ) → low ≤ m → m ≤ low + n → (m < low + n → lasts_to m ≡ false) → ((k : ℕ) → low ≤ k → k < m → lasts_to k ≡ true)
+  pub break_off_at : (m : ℕ) → low ≤ m → m ≤ low + n → (m < low + n → lasts_through m ≡ false) → ((k : ℕ) → low ≤ k → k < m → lasts_through k ≡ true)
       → break_off g carries from to n low ≡ m
   unfolding break_off
   break_off_at m a b none before = elim (dec_lt m (low + n)) [

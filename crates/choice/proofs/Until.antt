@@ -22,16 +22,12 @@ use Rattle.choice.specs.declared.asked.Asked.{Asked}
 use Rattle.choice.specs.Choice.{possible}
 use Rattle.choice.specs.Carrying.{carries}
 use Rattle.free_table.specs.Figures.{kept}
-use Rattle.choice.specs.BreakOff.{lasts}
+use Rattle.choice.specs.BreakOff.{lasts_to, lasts}
 use Rattle.choice.specs.Answer.{break_off_of, AskableOf}
 use Rattle.choice.proofs.Possible.{possible_more}
 use Rattle.choice.proofs.BreakOff.{lasts_agree, break_off_at}
 use Rattle.choice.proofs.Lent.{until_carries}
 use Rattle.choice.proofs.Exits.{clock, times, some_route}
-
--- the links that last to a minute
-abbrev pub to_minute : List ℕ → ℕ → ℕ → Bool
-to_minute until end l = leb end (get_or until l 0)
 
 module _ (a : Asked) (low : ℕ) where
   abbrev g : Graph
@@ -57,7 +53,7 @@ module _ (a : Asked) (low : ℕ) where
   module _ (askable : AskableOf a low low) (until : List ℕ) (long : length until ≡ most_links)
       (is : Until until (low + span) (λ l. first_missing a.table.events.now low (low + span) l a.search.now.bandwidth.0 a.table.figures.now)) where
     -- the links that carry the first n minutes are those that last to the end of these
-    pub marks : (n : ℕ) → 1 ≤ n → n ≤ span → Agree g g (to_minute until (low + n)) (carried_in n low)
+    pub marks : (n : ℕ) → 1 ≤ n → n ≤ span → Agree g g (lasts_to until (low + n)) (carried_in n low)
     marks n some few = record {
       count = refl;
       from = λ l h. refl;
@@ -67,25 +63,25 @@ module _ (a : Asked) (low : ℕ) where
     }
 
     abbrev possible_to : ℕ → Bool
-    possible_to m = possible g (λ x. to_minute until (suc m)) a.search.now.source a.search.now.destination low
+    possible_to m = possible g (λ x. lasts_to until (suc m)) a.search.now.source a.search.now.destination low
 
     lasts_marked : (m : ℕ) → low ≤ m → m < low + span → possible_to m ≡ lasts_of m
     lasts_marked m b e =
         let end : suc m ≡ low + (suc m - low) = omega arith in
-        ap (λ k. possible g (λ x. to_minute until k) a.search.now.source a.search.now.destination low) end
-        ∙ lasts_agree g g (λ x. to_minute until (low + (suc m - low))) (carried_in (suc m - low)) a.search.now.source a.search.now.destination low (marks (suc m - low) (omega arith) (omega arith))
+        ap (λ k. possible g (λ x. lasts_to until k) a.search.now.source a.search.now.destination low) end
+        ∙ lasts_agree g g (λ x. lasts_to until (low + (suc m - low))) (carried_in (suc m - low)) a.search.now.source a.search.now.destination low (marks (suc m - low) (omega arith) (omega arith))
 
     -- whether a path over these links is found tells whether one lasts throughout low to m
     pub path_lasts : (m : ℕ) → low ≤ m → m < low + span → (r : Option Path)
-        → r ≡ found_path (route g (to_minute until (m + 1)) a.search.now.destination a.search.now.source) → is_some r ≡ lasts_of m
+        → r ≡ found_path (route g (lasts_to until (m + 1)) a.search.now.destination a.search.now.source) → is_some r ≡ lasts_of m
     path_lasts m b e r q =
-        some_route g (λ x. to_minute until (m + 1)) a.search.now.source a.search.now.destination low r q
-        ∙ ap (λ k. possible g (λ x. to_minute until k) a.search.now.source a.search.now.destination low) (add-one m)
+        some_route g (λ x. lasts_to until (m + 1)) a.search.now.source a.search.now.destination low r q
+        ∙ ap (λ k. possible g (λ x. lasts_to until k) a.search.now.source a.search.now.destination low) (add-one m)
         ∙ lasts_marked m b e
 
     -- up to the next minute at which a link lacks the bandwidth the same links last
     module _ (m next : ℕ) (later : m < next) (least : (l : ℕ) → l < most_links → m < get_or until l 0 → next ≤ get_or until l 0) where
-      lasts_on : (l k : ℕ) → k < next → to_minute until (suc m) l ≡ true → to_minute until (suc k) l ≡ true
+      lasts_on : (l k : ℕ) → k < next → lasts_to until (suc m) l ≡ true → lasts_to until (suc k) l ≡ true
       lasts_on l k h e = elim (dec_lt l most_links) [
         | yes i ↦ le-leb (suc k) (get_or until l 0) (let n = least l i (leb-true (suc m) (get_or until l 0) e) in omega arith)
         | no i ↦ let past : length until ≤ l = omega (arith, long) in absurd (let z = leb-true (suc m) (get_or until l 0) e in omega (arith, get_or-eq_default until 0 past))
@@ -102,7 +98,7 @@ module _ (a : Asked) (low : ℕ) where
       }
         where
           possible_then : (k : ℕ) → k < next → possible_to m ≡ true → possible_to k ≡ true
-          possible_then k y = possible_more g (λ x. to_minute until (suc m)) (λ x. to_minute until (suc k)) a.search.now.source a.search.now.destination low low (λ l. lasts_on l k y)
+          possible_then k y = possible_more g (λ x. lasts_to until (suc m)) (λ x. lasts_to until (suc k)) a.search.now.source a.search.now.destination low low (λ l. lasts_on l k y)
 
   pub broken_first : Broken low
   broken_first = record { from_low = omega arith; in_time = omega arith; lasts_before = λ k x y. absurd (omega arith) }

@@ -87,7 +87,7 @@ chosen m (granted g) = Ok (given_start g.start (path_of g.path))
 chosen m no_start = refusal m
 
 -- document 01's number and values for each case; 0 is the number of a start, and 'on refusal start and path are zero'; document 02's
--- minute stands beside a refusal alone
+-- minute stands beside 8 alone
 abbrev pub values : Result Granted Refused → ChoiceRecord
 values (Ok given) = record { refusal = 0; start = given.start; path = given.path; at = record { 0 = 0 } }
 values (Err refused) = record { refusal = number refused.refusal; start = record { 0 = 0 }; path = path_of []; at = refused.at }

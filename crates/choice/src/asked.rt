@@ -26,25 +26,26 @@ fn next_lacking(until: &[u32; LINKS], minute: Minute, end: Minute) -> Minute
     ensures least { (l : ℕ) → l < most_links → minute.0 < get_or until.now l 0 → result.0 ≤ get_or until.now l 0 }
 {
     let mut next = end.0;
-    for &last in until {
-        if minute.0 < last && last < next {
-            next = last;
+    for &lacking in until {
+        if minute.0 < lacking && lacking < next {
+            next = lacking;
         }
     }
     Minute(next)
 }
 
 impl Asked<'_, '_> {
-    ghost use Rattle.std.specs.Prelude.{◌≡◌, ◌≤◌, false, leb, get_or};
+    ghost use Rattle.std.specs.Prelude.{◌≡◌, ◌≤◌, false};
     ghost use Rattle.units.specs.Limits.{last_shown};
     ghost use Rattle.units.specs.Spans.{release};
     ghost use Rattle.path_search.specs.Paths.{route};
     ghost use Rattle.path_search.specs.Answer.{graph, found_path};
+    ghost use Rattle.choice.specs.BreakOff.{lasts_to};
     ghost use Rattle.choice.specs.Answer.{route_of, possible_of, choice_of, break_off_of, AskableOf, found_start, chosen};
 
     // The path over the links that have the bandwidth free up to a minute, by where each of them lacks it first.
     fn path_until(&self, until: &[u32; LINKS], end: Minute) -> Option<Path>
-        ensures { result ≡ found_path (route (graph self.now.search.now.ends) (λ l. leb end.0 (get_or until.now l 0)) self.now.search.now.destination self.now.search.now.source) }
+        ensures { result ≡ found_path (route (graph self.now.search.now.ends) (lasts_to until.now end.0) self.now.search.now.destination self.now.search.now.source) }
     {
         let search = self.search;
         let mut usable = LinkSet {
@@ -68,7 +69,7 @@ impl Asked<'_, '_> {
         let end = end_minute(start, self.search.span);
         let until = self
             .table
-            .until(Interval { start, end }, self.search.bandwidth);
+            .missing_minutes(Interval { start, end }, self.search.bandwidth);
         self.path_until(&until, end)
     }
 
@@ -115,7 +116,7 @@ impl Asked<'_, '_> {
         let end = end_minute(low, self.search.span);
         let until = self
             .table
-            .until(Interval { start: low, end }, self.search.bandwidth);
+            .missing_minutes(Interval { start: low, end }, self.search.bandwidth);
         let mut minute = low;
         while minute < end && self.path_until(&until, Minute(minute.0 + 1)).is_some() {
             minute = next_lacking(&until, minute, end);
@@ -124,7 +125,8 @@ impl Asked<'_, '_> {
     }
 
     // The earliest start of low to latest at which there is a path, with that path; refusal 8 where there is none, with the minute
-    // at which every path from low on breaks off.
+    // at which every path from low on breaks off. Of a window that ends before it begins it is refusal 8 too, and the minute is
+    // the end of low's span where a path lasts throughout it.
     pub fn choose(&self, low: Minute, latest: Minute) -> Result<Granted, Refused>
         requires askable { AskableOf self.now low.0 latest.0 }
         requires low_in_time { release low.0 self.now.search.now.span.0 ≤ last_shown }

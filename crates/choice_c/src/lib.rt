@@ -13,7 +13,8 @@ use free_table::FreeTable;
 use units::Minute;
 
 // The earliest start of low to latest at which there is a path, with that path; refusal 8 where there is none, with the minute at
-// which every path from low on breaks off.
+// which every path from low on breaks off. Of a window that ends before it begins it is refusal 8 too, and the minute is the end of
+// low's span where a path lasts throughout it.
 #[unsafe(no_mangle)]
 pub extern "C" fn choose_start<'a>(
     search: Search,

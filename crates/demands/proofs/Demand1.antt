@@ -1,19 +1,19 @@
 -- The desk has demand 1.
-use mathlib.Core.Path.{◌≡◌, sym, ◌∙◌, subst}
+use mathlib.Core.Path.{◌≡◌, sym, ap, ◌∙◌, subst}
 use mathlib.Core.Logic.{⊎_elim}
 use mathlib.Core.List.{List}
-use Prim.Native.Nat.{◌<◌}
+use Prim.Native.Nat.{ℕ, ◌<◌}
 use native.Mathlib.Decide.{ℕ_discrete}
 use native.Mathlib.Omega.{arith}
 use Rattle.units.specs.declared.Link.{Link}
 use Rattle.histories.specs.Kinds.{all_checks}
 use Rattle.histories.proofs.Checks.{Numbered, Verdict, lets, stops, verdict}
 use Rattle.histories.proofs.Demand1 as every_kind
-use Rattle.rules.specs.Calls.{Ask, book, offer, list, cancel, move_clock, show, Call, set_up_with, ask, Refusal, Answer, done, refused, refuse, values, StartOr8, InForm}
+use Rattle.rules.specs.Calls.{Ask, book, offer, list, cancel, move_clock, show, Call, set_up_with, ask, Refusal, Answer, done, refused, refuse, Values, values, StartOr8, InForm}
 use Rattle.rules.specs.Tables.{Tables, held}
 use Rattle.rules.specs.Desk.{bandwidth_desk, outcome}
 use Rattle.rules.proofs.Exits.{own_numbered}
-use Rattle.demands.specs.Demands.{Desk, Demand1, AsksStart, NotOtherwise, RefusalKeeps}
+use Rattle.demands.specs.Demands.{Desk, Demand1, AsksStart, NotOtherwise, RefusalKeeps, OthersBringNone}
 use Rattle.demands.proofs.Lawful.{lawful}
 use Rattle.rules.proofs.Checks.{done≢refused, starts≢refused, lists≢refused, shows≢refused, refused_same}
 
@@ -54,3 +54,13 @@ refusal_keeps desk d links t c f e = elim (ℕ_discrete f.number 0) [
   | yes z ↦ absurd (not_0 desk d links t c f z e)
   | no z ↦ d.refusal_keeps links t c (subst (λ a. 0 < (values a).number) (sym e) (omega arith))
 ]
+
+minute_of : (f : Refusal) (k : ℕ) → refused f ≡ refuse k → f.at ≡ 0
+minute_of f k e = ap (λ (v : Values). v.at) (ap values e)
+
+pub others_bring_none : (desk : Desk) → Demand1 desk → OthersBringNone desk
+others_bring_none desk d links t c f e other = by (verdict refuse done (all_checks bandwidth_desk links t c) (all_numbered links t c))
+  where
+    by : Verdict refuse done (all_checks bandwidth_desk links t c) → f.at ≡ 0
+    by (lets p) = absurd (other (not_otherwise desk d links t c f p e).1)
+    by (stops k h p) = minute_of f k (sym e ∙ d.stopped links t c k p)

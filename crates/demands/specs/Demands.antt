@@ -1,6 +1,6 @@
 -- The three demands, as properties of any desk of this kind: ours is shown to have them, and a sham desk not to.
 -- No search, no row and no bound on the length of a path occurs here but in what the demands speak of.
-use Rattle.std.specs.Prelude.{◌≡◌, ◌⊎◌, ℕ, ◌≤◌, ◌<◌, length}
+use Rattle.std.specs.Prelude.{◌≡◌, ◌≢◌, ◌⊎◌, ℕ, ◌≤◌, ◌<◌, length}
 use mathlib.Core.List.{List, Memᴰ}
 use Rattle.units.specs.declared.Link.{Link}
 use Rattle.units.specs.declared.Request.{Request}
@@ -48,6 +48,10 @@ NotOtherwise desk = (links : List Link) (t : Tables) (c : Call) (f : Refusal) �
 -- And whatever its number and its minute, a refusal leaves every table as it came.
 abbrev pub RefusalKeeps : Desk → Type 0
 RefusalKeeps desk = (links : List Link) (t : Tables) (c : Call) (f : Refusal) → (desk links t c).answer ≡ refused f → (desk links t c).tables ≡ t
+
+-- Document 02's 'other refusals bring 0': beside a refusal that is not 8 stands no minute.
+abbrev pub OthersBringNone : Desk → Type 0
+OthersBringNone desk = (links : List Link) (t : Tables) (c : Call) (f : Refusal) → (desk links t c).answer ≡ refused f → f.number ≢ refusals.no_start → f.at ≡ 0
 
 -- 'The same minute is accepted and changes nothing.'
 abbrev pub SameMinute : Desk → Type 0

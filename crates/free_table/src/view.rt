@@ -95,7 +95,7 @@ impl FreeTable<'_> {
 
     // For each link the first minute of an interval at which it has less than the bandwidth free; the interval's end where
     // there is none.
-    pub fn until(&self, minutes: Interval, bandwidth: Bandwidth) -> [u32; LINKS]
+    pub fn missing_minutes(&self, minutes: Interval, bandwidth: Bandwidth) -> [u32; LINKS]
         ensures { Until result minutes.end.0 (λ l. first_missing self.now.events.now minutes.start.0 minutes.end.0 l bandwidth.0 self.now.figures.now) }
     {
         let (first, rows) = self.rows(minutes);

@@ -22,6 +22,7 @@ module _ (links : List Link) (p : Plain) (r : Request) where
   abbrev pub Carries : ℕ → ℕ → Type 0
   Carries m = FreeIn m (m + span p (terms r))
 
+  -- such a chain for the span from m
   abbrev pub PathAt : ℕ → List ℕ → Type 0
   PathAt m path = PathIn m (m + span p (terms r)) path
 

@@ -1,9 +1,9 @@
 -- What the numbers that are handed out tell of an answer: the demands speak of answers, the contracts of the calls hand out
 -- their `values`.
-use Rattle.std.specs.Prelude.{◌≡◌, length}
+use Rattle.std.specs.Prelude.{◌≡◌, ℕ, length}
 use Rattle.units.specs.Limits.{most_hops}
 use Rattle.units.specs.Lists.{padded}
-use Rattle.rules.specs.Calls.{Answer, done, starts, lists, shows, refused, Values, values}
+use Rattle.rules.specs.Calls.{Answer, done, starts, lists, shows, refused, refuse, Values, values}
 
 abbrev pub Told : Answer → Values → Type 0
 Told done v = v.number ≡ 0
@@ -14,3 +14,7 @@ Told (refused r) v = (v.number ≡ r.number) × (v.at ≡ r.at)
 
 abbrev pub NumbersTell : Type 0
 NumbersTell = (a : Answer) → Told a (values a)
+
+-- document 02's 'other refusals bring 0', of the refusal by a check
+abbrev pub ChecksBringNone : Type 0
+ChecksBringNone = (k : ℕ) → (values (refuse k)).at ≡ 0

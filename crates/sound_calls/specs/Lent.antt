@@ -9,12 +9,19 @@ use Rattle.listing.specs.Ranges.{list_table}
 use Rattle.sound_calls.specs.declared.Shown.{Shown}
 use Rattle.sound_calls.specs.declared.Listed.{Listed}
 use Rattle.rules.specs.Calls.{Call, Answer, done, starts, lists, shows, refused, values}
+use Rattle.rules.specs.Numbers.{Told}
 use Rattle.rules.specs.Tables.{Tables}
 use Rattle.rules.specs.Desk.{outcome}
 
 -- an answer's number and values, for a booking or an offer, for a listing, and for a showing
 abbrev pub choice_shown : Answer → ChoiceRecord
 choice_shown a = record { refusal = (values a).number; start = record { 0 = (values a).start }; path = record { count = (values a).count; links = (values a).path }; at = record { 0 = (values a).at } }
+
+-- what the record hands out tells the answer, and its minute stands beside a refusal alone
+abbrev pub ChoiceTells : Type 0
+ChoiceTells =
+    (a : Answer) → let r = choice_shown a in
+    Told a (record { number = r.refusal; start = r.start.0; count = r.path.count; path = r.path.links; ranges = (values a).ranges; figure = (values a).figure; at = r.at.0 })
 
 abbrev pub listed : Answer → Listed
 listed a = record { refusal = (values a).number; count = (values a).ranges }

@@ -98,8 +98,7 @@ pub fn refusal_number(answer: Result<(), Refusal>) -> u32
 #[derive(Clone, Copy, PartialEq, Eq, PartialOrd, Ord)]
 pub struct Minute(pub u32);
 
-// Why a booking or an offer is refused. Beside `NoStart` stands the minute at which every path from low on breaks off; beside any
-// other refusal 0.
+// Why a call is refused, with a minute: beside `NoStart` that at which every path from low on breaks off, beside any other refusal 0.
 #[derive(Clone, Copy)]
 pub struct Refused {
     pub refusal: Refusal,

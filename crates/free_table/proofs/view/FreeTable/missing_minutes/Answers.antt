@@ -1,11 +1,11 @@
--- `until` meets its contract: for each link the minute is that of the rows from `row` on.
+-- `missing_minutes` meets its contract: for each link the minute is that of the rows from `row` on.
 use Rattle.std.proofs.Common.{◌≡◌, ◌-◌, List, [], ℕ, suc, cond, ltb, length, get_or, sym, ap, ap₂, ◌∙◌, arith}
 use lib.ListN.{get_or-replicate}
 use Rattle.units.specs.Limits.{most_links}
 use Rattle.free_table.specs.Looking.{first_missing, minute_found}
 use Rattle.units.specs.Search.{Found, found_or, first_from}
 use Rattle.free_table.proofs.SpanRows.{until_from, until_past, until_before, lacks_in, lacking_rows}
-use Rattle.free_table.proofs.view.FreeTable.until.Goals as goal
+use Rattle.free_table.proofs.view.FreeTable.missing_minutes.Goals as goal
 
 pub loop-row-init : goal.loop-row-init
 loop-row-init c = λ k h.
