@@ -20,8 +20,8 @@ module _ (links : List Link) (p : Plain) (r : Request) where
   breaks_off_inside m some window none b = elim (dec_lt m (low p r + span p (terms r))) [
     | yes h ↦ h
     | no h ↦ absurd (
-      let last : ℕ = low p r + span p (terms r) - 1 in
-      let end : suc last ≡ low p r + span p (terms r) = omega arith in
-      let w = b.lasts_before last (omega arith) (omega arith) in
-      none (low p r) w.0 (le_refl (low p r), window) (subst (λ e. PathIn links p r (low p r) e w.0) end w.1))
+        let last : ℕ = low p r + span p (terms r) - 1 in
+        let end : suc last ≡ low p r + span p (terms r) = omega arith in
+        let w = b.lasts_before last (omega arith) (omega arith) in
+        none (low p r) w.0 (le_refl (low p r), window) (subst (λ e. PathIn links p r (low p r) e w.0) end w.1))
   ]
