@@ -407,7 +407,19 @@ guarded_day = record {
       -- 18: the same offer again
       ++ order 0x4000_0020_0064_0001_4000_0087_3FFF_FFFF
       -- 19: cancel 202, whose guard has ended
-      ++ order 0x2032_8000_0000_0000_0000_0000_0000_0000;
+      ++ order 0x2032_8000_0000_0000_0000_0000_0000_0000
+      -- 20: book 206, from 0 to 2, 40 Mb/s for 20 minutes, earliest 600, latest 600
+      ++ order 0x1033_8020_0028_0001_4000_0096_0000_0258
+      -- 21: offer, from 1 to 2, 100 Mb/s for 60 minutes, earliest 591, latest 699
+      ++ order 0x4000_0220_0064_0003_C000_0093_C000_02BB
+      -- 22: offer, from 0 to 2, 40 Mb/s for 80 minutes, earliest 580, latest 629
+      ++ order 0x4000_0020_0028_0005_0000_0091_0000_0275
+      -- 23: book 207, from 0 to 1, 80 Mb/s for 5 minutes, earliest 585, latest 585
+      ++ order 0x1033_C010_0050_0000_5000_0092_4000_0249
+      -- 24: book 208, from 0 to 2, 40 Mb/s for 80 minutes, earliest 580, latest 629
+      ++ order 0x1034_0020_0028_0005_0000_0091_0000_0275
+      -- 25: the same, latest 630
+      ++ order 0x1034_0020_0028_0005_0000_0091_0000_0276;
   text =
       codes "desk links 3\n"
       ++ codes "1 clock 480\n"
@@ -428,7 +440,13 @@ guarded_day = record {
       ++ codes "16 offer start 560 links 0 1\n"
       ++ codes "17 cancelled 203\n"
       ++ codes "18 offer start 550 links 0 1\n"
-      ++ codes "19 refused 9\n";
+      ++ codes "19 refused 9\n"
+      ++ codes "20 booked 206 start 600 links 2\n"
+      ++ codes "21 refused 8 at 660\n"
+      ++ codes "22 refused 8 at 660\n"
+      ++ codes "23 booked 207 start 585 links 0\n"
+      ++ codes "24 refused 8 at 600\n"
+      ++ codes "25 booked 208 start 630 links 2\n";
 }
 
 abbrev pub samples : List Sample
