@@ -20,6 +20,10 @@ booking_in book i = record {
   links = take most_hops (drop (i * place_size + 5) book);
 }
 
+-- the links of a place's path
+abbrev pub place_path : Booking → List ℕ
+place_path b = take b.count b.links
+
 -- the book with a booking put in at place i: those behind it move up
 abbrev pub with_booking : ℕ → Booking → List ℕ → List ℕ
 with_booking i b book = with_place place_size i (figures b) book

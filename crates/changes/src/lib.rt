@@ -2,11 +2,11 @@
 // nothing here refuses.
 #![tactic(auto)]
 
-ghost use Rattle.std.specs.Prelude.{◌≡◌, true, ◌≤◌};
-ghost use Rattle.units.specs.Limits.{last_minute, most_guard};
+ghost use Rattle.std.specs.Prelude.{◌≡◌, true, ◌≤◌, length};
+ghost use Rattle.units.specs.Limits.{last_minute, most_guard, most_totals};
 ghost use Rattle.rules.specs.Plain.{empty};
 ghost use Rattle.rules.specs.Calls.{stands, take_out, move_to, put_in};
-ghost use Rattle.rules.specs.Tables.{held, held_by, event_table, free_table, lent, sized, tables, Fine};
+ghost use Rattle.rules.specs.Tables.{held, held_by, event_table, free_table, totals_table, lent, sized, tables, Fine};
 ghost use Rattle.lent.specs.Lent.{tables_of, SameLoans};
 ghost use Rattle.rebuild.specs.Rebuilding.{CanRebuild};
 ghost use Rattle.changes.specs.Updating.{booked, Grantable};
@@ -16,17 +16,20 @@ use lent::Desk;
 use path_search::Path;
 use places::{drop_ended, find, remove_place, slot};
 use rebuild::{RightBooking, add_booking, rebuild};
+use totals::{add_work, write_totals};
 use units::{Duration, Head, Minute, PLACE, Request};
 
-// Writes a head, and the events and free figures anew from it and the book.
+// Writes a head, and the events, free figures and totals anew from it and the book.
 fn rebuild_desk(desk: &mut Desk<'_>, head: Head)
-    requires { CanRebuild desk.old.links.now head desk.old.book.now desk.old.events.now desk.old.free.now }
+    requires can { CanRebuild desk.old.links.now head desk.old.book.now desk.old.events.now desk.old.free.now }
+    requires totals_sized { length desk.old.totals.now ≡ most_totals }
     ensures loans { SameLoans desk.old desk.new }
-    ensures tables { let p = held_by head desk.old.book.now in tables_of desk.new ≡ lent head (event_table p) (free_table desk.old.links.now p) desk.old.book.now }
+    ensures tables { let p = held_by head desk.old.book.now in tables_of desk.new ≡ lent head (event_table p) (free_table desk.old.links.now p) desk.old.book.now (totals_table desk.old.links.now p) }
 {
     let links = desk.links;
     let book = &mut *desk.book;
     rebuild(head, links, desk.events, desk.free, book);
+    write_totals(head, book, desk.totals);
     *desk.head = head;
 }
 
@@ -77,7 +80,8 @@ pub fn advance(desk: &mut Desk<'_>, minute: Minute)
     rebuild_desk(desk, head);
 }
 
-// Enters an accepted booking: its place in the book, its events, and its bandwidth taken from each link of its path.
+// Enters an accepted booking: its place in the book, its events, its bandwidth taken from each link of its path, and its work
+// added to the link's total.
 pub fn enter(desk: &mut Desk<'_>, number: u32, request: Request, start: Minute, path: Path)
     requires fine { Fine desk.old.links.now (tables_of desk.old) }
     requires grantable { Grantable desk.old.links.now (held (tables_of desk.old)) number request start path }
@@ -98,6 +102,7 @@ pub fn enter(desk: &mut Desk<'_>, number: u32, request: Request, start: Minute, 
     let place = slot(book, PLACE, head.bookings as usize, number);
     insert_booking(book, place, booking);
     add_booking(head, desk.events, desk.free, RightBooking { booking });
+    add_work(desk.totals, booking);
     head.bookings += 1;
     *desk.head = head;
 }

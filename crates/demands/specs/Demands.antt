@@ -9,7 +9,7 @@ use Rattle.units.specs.Refusals as refusals
 use Rattle.histories.specs.Kinds as kinds
 use Rattle.histories.specs.Demands as demands
 use Rattle.rules.specs.Plain.{Plain, until, capacity, low}
-use Rattle.rules.specs.Calls.{Ask, book, offer, list, cancel, move_clock, show, Call, set_up_with, ask, Refusal, done, refused}
+use Rattle.rules.specs.Calls.{Ask, book, offer, list, cancel, move_clock, show, sold, Call, set_up_with, ask, Refusal, done, refused}
 use Rattle.rules.specs.Choosing.{PathAt, RightChoice}
 use Rattle.rules.specs.Tables.{Tables, Fine, held, events_of}
 use Rattle.rules.specs.Desk.{bandwidth_desk, Keeps}
@@ -36,6 +36,7 @@ asks_start (list n r) = ⊥
 asks_start (cancel n) = ⊥
 asks_start (move_clock m) = ⊥
 asks_start (show l m) = ⊥
+asks_start (sold l) = ⊥
 
 abbrev pub AsksStart : Call → Type 0
 AsksStart (set_up_with s) = ⊥

@@ -1,10 +1,10 @@
--- The examples of document 01 that are marked P, and those of document 02's Jobs 5 and 6, as one list of entries with a single claim over the
+-- The examples of document 01 that are marked P, and those of document 02's Jobs 5 to 7, as one list of entries with a single claim over the
 -- list, of any desk.
 use Rattle.std.specs.Prelude.{◌≡◌, List, [], ◌∷◌, ◌++◌, map, true, ℕ, zero, suc, ◌-◌, ◌≤◌, replicate}
 use Rattle.units.specs.declared.Link.{Link}
 use Rattle.units.specs.declared.Request.{Request}
 use Rattle.units.specs.Lists.{All}
-use Rattle.rules.specs.Calls.{Ask, book, offer, cancel, move_clock, show, set_up, ask, Answer, done, starts, shows, refuse, no_start_at}
+use Rattle.rules.specs.Calls.{Ask, book, offer, cancel, move_clock, show, sold, set_up, ask, Answer, done, starts, shows, refuse, no_start_at}
 use Rattle.rules.specs.Tables.{Tables, sized}
 use Rattle.histories.specs.Histories.{answers}
 use Rattle.demands.specs.Demands.{Desk}
@@ -150,8 +150,32 @@ broken_off = record {
       ∷ no_start_at 14 ∷ no_start_at 14 ∷ start_at 0 (1 ∷ []) ∷ [];
 }
 
+-- 6 Mb/s for 5 minutes on links 0 and 1 and 4 for 10 on link 0 alone, under guard 3, which isn't counted; link 3 is not on the list
+abbrev pub sums : Entry
+sums = record {
+  guard = 3;
+  least = 0;
+  most = 0;
+  links = λ f. session_links;
+  calls = λ f. book 1 (request 0 2 6 5 0 0) ∷ book 2 (request 0 1 4 10 0 0) ∷ sold 0 ∷ sold 1 ∷ sold 2 ∷ sold 3 ∷ [];
+  answered = λ f. start_at 0 (0 ∷ 1 ∷ []) ∷ start_at 0 (0 ∷ []) ∷ shows 70 ∷ shows 30 ∷ shows 0 ∷ refuse 4 ∷ [];
+}
+
+-- a running booking counts whole, also in its guard; one that has ended or was cancelled counts no more
+abbrev pub dropped : Entry
+dropped = record {
+  guard = 3;
+  least = 0;
+  most = 0;
+  links = λ f. session_links;
+  calls = λ f. book 1 (request 0 2 6 5 0 0) ∷ book 2 (request 0 1 4 10 0 0) ∷ move_clock 7 ∷ sold 0 ∷ move_clock 8 ∷ sold 0 ∷ cancel 2 ∷ sold 0 ∷ [];
+  answered = λ f. start_at 0 (0 ∷ 1 ∷ []) ∷ start_at 0 (0 ∷ []) ∷ done ∷ shows 70 ∷ done ∷ shows 40 ∷ done ∷ shows 0 ∷ [];
+}
+
 abbrev pub entries : List Entry
-entries = session ∷ free_figure ∷ free_figure_left ∷ before_low ∷ full_book ∷ same_ends ∷ guarded ∷ last_figure 0 ∷ last_figure 15 ∷ broken_off ∷ []
+entries =
+    session ∷ free_figure ∷ free_figure_left ∷ before_low ∷ full_book ∷ same_ends ∷ guarded ∷ last_figure 0 ∷ last_figure 15 ∷ broken_off
+    ∷ sums ∷ dropped ∷ []
 
 -- the single claim
 abbrev pub Examples : Desk → Type 0

@@ -1,5 +1,5 @@
-// The seven calls of a desk in the static library that C links, in the forms that document 01 names: the links lent for reading
-// as a list of records, the head lent and renewed where it stands, events, free figures and book as lent slices. Each call hands
+// The eight calls of a desk in the static library that C links, in the forms that document 01 names: the links lent for reading
+// as a list of records, the head lent and renewed where it stands, events, free figures, book and totals as lent slices. Each call hands
 // what it is lent to its core in `desk_core` and makes the answer for C; nothing is decided here. Every call is answered for
 // every input. `include/gcr_desk.h` declares them.
 #![tactic(auto)]
@@ -7,11 +7,12 @@
 ghost use Rattle.std.specs.Prelude.{◌≡◌, length};
 ghost use Rattle.rules.specs.Calls.{Ask, set_up, ask};
 ghost use Rattle.rules.specs.Tables.{lent};
-ghost use Rattle.sound_calls.specs.Lent.{choice_answer, listed_answer, list_after, shown_answer, refusal_answer, tables_after};
+ghost use Rattle.sound_calls.specs.Lent.{choice_answer, listed_answer, list_after, shown_answer, sold_answer, refusal_answer, tables_after};
 
 use choice::ChoiceRecord;
 use desk_core::{
-    Listed, Shown, cancel, list_starts, make_booking, move_clock, offer, set_up, show,
+    Listed, Shown, Sold, cancel, list_starts, make_booking, move_clock, offer, set_up, show,
+    sold_work,
 };
 use lent::{Desk, LentTables};
 use units::{Duration, Head, Link, LinkNumber, Minute, Request, refusal_number};
@@ -25,11 +26,12 @@ pub extern "C" fn gcr_set_up(
     events: &mut [u32],
     free: &mut [u32],
     book: &mut [u32],
+    totals: &mut [u64],
     guard: Duration,
 ) -> u32
-    ensures { let t = lent head.old events.old free.old book.old in
+    ensures { let t = lent head.old events.old free.old book.old totals.old in
         (result ≡ refusal_answer links.now t (set_up guard.0))
-        × (lent head.new events.new free.new book.new ≡ tables_after links.now t (set_up guard.0)) }
+        × (lent head.new events.new free.new book.new totals.new ≡ tables_after links.now t (set_up guard.0)) }
 {
     let mut desk = Desk {
         head,
@@ -37,6 +39,7 @@ pub extern "C" fn gcr_set_up(
         events,
         free,
         book,
+        totals,
     };
     refusal_number(set_up(&mut desk, guard))
 }
@@ -49,12 +52,13 @@ pub extern "C" fn gcr_book(
     events: &mut [u32],
     free: &mut [u32],
     book: &mut [u32],
+    totals: &mut [u64],
     number: u32,
     request: Request,
 ) -> ChoiceRecord
-    ensures { let t = lent head.old events.old free.old book.old in
+    ensures { let t = lent head.old events.old free.old book.old totals.old in
         (result ≡ choice_answer links.now t (ask (Ask.book number request)))
-        × (lent head.new events.new free.new book.new ≡ tables_after links.now t (ask (Ask.book number request))) }
+        × (lent head.new events.new free.new book.new totals.new ≡ tables_after links.now t (ask (Ask.book number request))) }
 {
     let mut desk = Desk {
         head,
@@ -62,6 +66,7 @@ pub extern "C" fn gcr_book(
         events,
         free,
         book,
+        totals,
     };
     ChoiceRecord::from(make_booking(&mut desk, number, request))
 }
@@ -74,9 +79,10 @@ pub extern "C" fn gcr_offer(
     events: &[u32],
     free: &[u32],
     book: &[u32],
+    totals: &[u64],
     request: Request,
 ) -> ChoiceRecord
-    ensures { result ≡ choice_answer links.now (lent head.now events.now free.now book.now) (ask (Ask.offer request)) }
+    ensures { result ≡ choice_answer links.now (lent head.now events.now free.now book.now totals.now) (ask (Ask.offer request)) }
 {
     let tables = LentTables {
         head: *head,
@@ -84,6 +90,7 @@ pub extern "C" fn gcr_offer(
         events,
         free,
         book,
+        totals,
     };
     ChoiceRecord::from(offer(&tables, request))
 }
@@ -97,10 +104,11 @@ pub extern "C" fn gcr_list_starts(
     events: &[u32],
     free: &[u32],
     book: &[u32],
+    totals: &[u64],
     request: Request,
     list: &mut [u32],
 ) -> Listed
-    ensures { let t = lent head.now events.now free.now book.now in
+    ensures { let t = lent head.now events.now free.now book.now totals.now in
         (result ≡ listed_answer links.now t (ask (Ask.list (length list.old) request)))
         × (list.new ≡ list_after links.now t (ask (Ask.list (length list.old) request)) list.old) }
 {
@@ -110,6 +118,7 @@ pub extern "C" fn gcr_list_starts(
         events,
         free,
         book,
+        totals,
     };
     Listed::from(list_starts(&tables, request, list))
 }
@@ -122,11 +131,12 @@ pub extern "C" fn gcr_cancel(
     events: &mut [u32],
     free: &mut [u32],
     book: &mut [u32],
+    totals: &mut [u64],
     number: u32,
 ) -> u32
-    ensures { let t = lent head.old events.old free.old book.old in
+    ensures { let t = lent head.old events.old free.old book.old totals.old in
         (result ≡ refusal_answer links.now t (ask (Ask.cancel number)))
-        × (lent head.new events.new free.new book.new ≡ tables_after links.now t (ask (Ask.cancel number))) }
+        × (lent head.new events.new free.new book.new totals.new ≡ tables_after links.now t (ask (Ask.cancel number))) }
 {
     let mut desk = Desk {
         head,
@@ -134,6 +144,7 @@ pub extern "C" fn gcr_cancel(
         events,
         free,
         book,
+        totals,
     };
     refusal_number(cancel(&mut desk, number))
 }
@@ -146,11 +157,12 @@ pub extern "C" fn gcr_move_clock(
     events: &mut [u32],
     free: &mut [u32],
     book: &mut [u32],
+    totals: &mut [u64],
     minute: Minute,
 ) -> u32
-    ensures { let t = lent head.old events.old free.old book.old in
+    ensures { let t = lent head.old events.old free.old book.old totals.old in
         (result ≡ refusal_answer links.now t (ask (Ask.move_clock minute.0)))
-        × (lent head.new events.new free.new book.new ≡ tables_after links.now t (ask (Ask.move_clock minute.0))) }
+        × (lent head.new events.new free.new book.new totals.new ≡ tables_after links.now t (ask (Ask.move_clock minute.0))) }
 {
     let mut desk = Desk {
         head,
@@ -158,6 +170,7 @@ pub extern "C" fn gcr_move_clock(
         events,
         free,
         book,
+        totals,
     };
     refusal_number(move_clock(&mut desk, minute))
 }
@@ -170,10 +183,11 @@ pub extern "C" fn gcr_show(
     events: &[u32],
     free: &[u32],
     book: &[u32],
+    totals: &[u64],
     link: LinkNumber,
     minute: Minute,
 ) -> Shown
-    ensures { result ≡ shown_answer links.now (lent head.now events.now free.now book.now) (ask (Ask.show link.0 minute.0)) }
+    ensures { result ≡ shown_answer links.now (lent head.now events.now free.now book.now totals.now) (ask (Ask.show link.0 minute.0)) }
 {
     let tables = LentTables {
         head: *head,
@@ -181,6 +195,31 @@ pub extern "C" fn gcr_show(
         events,
         free,
         book,
+        totals,
     };
     Shown::from(show(&tables, link, minute))
+}
+
+// The sold work of a link: bandwidth times duration of each standing booking that uses it; it writes no table. Refuses 1, 3 and 4.
+#[unsafe(no_mangle)]
+pub extern "C" fn gcr_sold_work(
+    head: &Head,
+    links: &[Link],
+    events: &[u32],
+    free: &[u32],
+    book: &[u32],
+    totals: &[u64],
+    link: LinkNumber,
+) -> Sold
+    ensures { result ≡ sold_answer links.now (lent head.now events.now free.now book.now totals.now) (ask (Ask.sold link.0)) }
+{
+    let tables = LentTables {
+        head: *head,
+        links,
+        events,
+        free,
+        book,
+        totals,
+    };
+    Sold::from(sold_work(&tables, link))
 }

@@ -17,6 +17,7 @@ pub struct LentTables<'a> {
     pub events: &'a [u32],
     pub free: &'a [u32],
     pub book: &'a [u32],
+    pub totals: &'a [u64],
 }
 
 // Links lent for reading, and tables lent to be written.
@@ -27,6 +28,7 @@ pub struct Desk<'a> {
     pub events: &'a mut [u32],
     pub free: &'a mut [u32],
     pub book: &'a mut [u32],
+    pub totals: &'a mut [u64],
 }
 
 impl<'a> LentTables<'a> {
@@ -55,6 +57,7 @@ impl Desk<'_> {
             events: self.events,
             free: self.free,
             book: self.book,
+            totals: self.totals,
         }
     }
 }

@@ -10,7 +10,7 @@ ghost use Rattle.lent.specs.Lent.{tables_in};
 use lent::LentTables;
 use units::{
     BOOK_FIGURES, Duration, EVENTS, FREE_FIGURES, LAST_NODE, LINKS, Link, MAX_BANDWIDTH,
-    MAX_DURATION, MAX_GUARD, MAX_MINUTE, MAX_NUMBER, Request,
+    MAX_DURATION, MAX_GUARD, MAX_MINUTE, MAX_NUMBER, Request, TOTALS,
 };
 
 // Whether a booking number is in range.
@@ -59,7 +59,7 @@ pub fn request_ok(request: Request) -> bool
         && request.latest.0 <= MAX_MINUTE
 }
 
-// Whether there are 1 to 64 links and the lent tables have the sizes that document 01 states.
+// Whether there are 1 to 64 links and the lent tables have the sizes that documents 01 and 02 state.
 pub fn sized(tables: &LentTables<'_>) -> bool
     ensures { result ≡ sized tables.now.links.now (tables_in tables.now) }
 {
@@ -67,4 +67,5 @@ pub fn sized(tables: &LentTables<'_>) -> bool
         && tables.events.len() == EVENTS
         && tables.free.len() == FREE_FIGURES
         && tables.book.len() == BOOK_FIGURES
+        && tables.totals.len() == TOTALS
 }

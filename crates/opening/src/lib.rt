@@ -74,11 +74,12 @@ pub fn open_desk<'a>(
     events: &mut [u32],
     free: &mut [u32],
     book: &mut [u32],
+    totals: &mut [u64],
 ) -> Result<&'a [Link], Refusal>
-    ensures refusal { number_of result ≡ (opened (lent head.old events.old free.old book.old) bytes.now).answer.refusal }
-    ensures links { IfOk result (λ links. links.now ≡ (opened (lent head.old events.old free.old book.old) bytes.now).answer.links) }
-    ensures fine { IfOk result (λ links. Fine links.now (lent head.new events.new free.new book.new)) }
-    ensures tables { lent head.new events.new free.new book.new ≡ (opened (lent head.old events.old free.old book.old) bytes.now).tables }
+    ensures refusal { number_of result ≡ (opened (lent head.old events.old free.old book.old totals.old) bytes.now).answer.refusal }
+    ensures links { IfOk result (λ links. links.now ≡ (opened (lent head.old events.old free.old book.old totals.old) bytes.now).answer.links) }
+    ensures fine { IfOk result (λ links. Fine links.now (lent head.new events.new free.new book.new totals.new)) }
+    ensures tables { lent head.new events.new free.new book.new totals.new ≡ (opened (lent head.old events.old free.old book.old totals.old) bytes.now).tables }
 {
     let links = session_links(bytes, places)?;
     let guard = Duration(u32::from(bytes[COUNT_BYTES]));
@@ -88,6 +89,7 @@ pub fn open_desk<'a>(
         events,
         free,
         book,
+        totals,
     };
     set_up(&mut desk, guard)?;
     Ok(links)

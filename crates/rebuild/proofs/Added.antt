@@ -36,7 +36,8 @@ use Rattle.rules.specs.Plain.{Booking, Plain, until, uses, times, taken, capacit
 use Rattle.rules.specs.Calls.{put_in}
 use Rattle.rules.specs.Tables.{events_of, booking_of}
 use Rattle.rules.specs.Sound.{BookingRight}
-use Rattle.rebuild.specs.Rebuilding.{place_path, less_path, enough_path, PlaceRight, events_in, free_in}
+use Rattle.book.specs.Places.{place_path}
+use Rattle.rebuild.specs.Rebuilding.{less_path, enough_path, PlaceRight, events_in, free_in}
 use Rattle.rebuild.proofs.Along.{link_below}
 use Rattle.rules.specs.Desk.{NotOversold}
 use Rattle.rules.proofs.Uses.{all_times, uses_most, uses_within, taken_put_in, free_put_in, taken_past, free_changes}

@@ -1,5 +1,5 @@
 -- What rebuilding gives: the events and free figures of a head and the first places of a book, booking by booking.
-use Rattle.std.specs.Prelude.{◌≡◌, List, [], ◌∷◌, Bool, ℕ, ◌*◌, ◌≤◌, ◌<◌, length, take, get_or}
+use Rattle.std.specs.Prelude.{◌≡◌, List, [], ◌∷◌, Bool, ℕ, ◌*◌, ◌≤◌, ◌<◌, length, get_or}
 use Rattle.units.specs.Limits.{most_links, most_hops, most_bookings, most_events, place_size, last_minute, longest, most_guard}
 use Rattle.units.specs.Lists.{all, All, Within, padded}
 use Rattle.units.specs.Spans.{span_of, release}
@@ -7,17 +7,14 @@ use Rattle.units.specs.declared.Head.{Head}
 use Rattle.free_table.specs.Taking.{less_span}
 use Rattle.free_table.specs.Looking.{enough_span}
 use Rattle.book.specs.declared.Booking.{Booking as Place}
-use Rattle.book.specs.Places.{booking_in}
+use Rattle.book.specs.Places.{booking_in, place_path}
 use Rattle.units.specs.declared.Link.{Link}
 use Rattle.free_table.specs.Figures.{table}
 use Rattle.rules.specs.Plain.{Plain, free}
 use Rattle.rules.specs.Tables.{held_by, events_of}
 use Rattle.rules.specs.Sound.{BookingRight}
 
--- the links of a place's path, and the minute at which it releases them
-abbrev pub place_path : Place → List ℕ
-place_path b = take b.count b.links
-
+-- the minute at which a place's booking releases its links
 abbrev pub release_of : Head → Place → ℕ
 release_of head b = release b.start.0 (span_of head b.duration.0)
 

@@ -8,7 +8,8 @@ ghost use Rattle.timeline.specs.Insertion.{with_span, with_span_rows, Room};
 ghost use Rattle.rules.specs.Tables.{held_by, event_table, free_table};
 ghost use Rattle.rules.specs.Desk.{NotOversold};
 ghost use Rattle.free_table.specs.Looking.{TablesSized};
-ghost use Rattle.rebuild.specs.Rebuilding.{place_path, release_of, less_path, enough_path, CanRebuild, CanRebuildIn, events_in, free_in};
+ghost use Rattle.book.specs.Places.{place_path};
+ghost use Rattle.rebuild.specs.Rebuilding.{release_of, less_path, enough_path, CanRebuild, CanRebuildIn, events_in, free_in};
 
 mod right;
 

@@ -91,6 +91,16 @@ pub fn check_show(tables: &LentTables<'_>, link: LinkNumber, minute: Minute) -> 
     Ok(())
 }
 
+// The first check of its own that a question for a total does not pass.
+pub fn check_sold(tables: &LentTables<'_>, link: LinkNumber) -> Result<(), Refusal>
+    ensures { number_of result ≡ first_refusal (own_checks tables.now.links.now (held (tables_in tables.now)) (Ask.sold link.0)) }
+{
+    if tables.links.len() <= link.0 as usize {
+        return Err(Refusal::BadField);
+    }
+    Ok(())
+}
+
 // The first check that a set-up does not pass: the sizes of what is lent, the guard, and the links.
 pub fn check_set_up(tables: &LentTables<'_>, guard: Duration) -> Result<(), Refusal>
     ensures { number_of result ≡ first_refusal (table_checks tables.now.links.now (tables_in tables.now) (set_up guard.0)) }

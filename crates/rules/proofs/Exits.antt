@@ -9,7 +9,7 @@ use Rattle.histories.specs.Kinds as kinds
 use Rattle.histories.proofs.Checks.{Passed, Numbered, passed_number, stopped_number, passed_answer}
 use Rattle.histories.proofs.Exits.{outcome_of, left_refused}
 use Rattle.rules.specs.Plain.{Plain}
-use Rattle.rules.specs.Calls.{Ask, book, offer, list, cancel, move_clock, show, Call, set_up, set_up_with, ask, Answer, done, refuse, checked, first_refusal, own_checks, result, list_fits}
+use Rattle.rules.specs.Calls.{Ask, book, offer, list, cancel, move_clock, show, sold, Call, set_up, set_up_with, ask, Answer, done, refuse, checked, first_refusal, own_checks, result, list_fits}
 use Rattle.rules.specs.Tables.{Tables, sized, sound, held, guard_check, table_checks}
 use Rattle.rules.specs.Desk.{Outcome, bandwidth_desk, answer_with, answer_on, left_by, outcome}
 
@@ -25,6 +25,7 @@ own_numbered links p (list n r) = (omega arith, (omega arith, (omega arith, tt))
 own_numbered links p (cancel n) = (omega arith, (omega arith, tt))
 own_numbered links p (move_clock m) = (omega arith, (omega arith, tt))
 own_numbered links p (show l m) = (omega arith, tt)
+own_numbered links p (sold l) = (omega arith, tt)
 
 module _ (links : List Link) (t : Tables) where
   refused_outcome : (c : Call) (k : ℕ) → 1 ≤ k → answer_on links t c ≡ refuse k → outcome links t c ≡ refused_with k t

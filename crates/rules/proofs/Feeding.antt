@@ -8,7 +8,7 @@ use Rattle.units.specs.Lists.{select}
 use Rattle.units.specs.declared.Request.{Request}
 use Rattle.choice.specs.Choice.{Grant}
 use Rattle.rules.specs.Plain.{Plain, terms}
-use Rattle.rules.specs.Calls.{Ask, book, offer, list, cancel, move_clock, show, Call, set_up_with, ask, Refusal, Answer, done, starts, lists, shows, refused, next}
+use Rattle.rules.specs.Calls.{Ask, book, offer, list, cancel, move_clock, show, sold, Call, set_up_with, ask, Refusal, Answer, done, starts, lists, shows, refused, next}
 use Rattle.rules.specs.Feeding.{RightlyFed}
 
 refusal_kept : (p : Plain) (c : Call) (f : Refusal) → next p c (refused f) ≡ p
@@ -19,6 +19,7 @@ refusal_kept p (ask (list n r)) f = refl
 refusal_kept p (ask (cancel n)) f = refl
 refusal_kept p (ask (move_clock m)) f = refl
 refusal_kept p (ask (show l m)) f = refl
+refusal_kept p (ask (sold l)) f = refl
 
 booking_added : (p : Plain) (n : ℕ) (r : Request) (g : Grant)
     → ((next p (ask (book n r)) (starts g)).bookings ≡ record { number = n; terms = terms r; grant = g } ∷ p.bookings) × ((next p (ask (book n r)) (starts g)).clock ≡ p.clock)
@@ -43,6 +44,7 @@ guard_kept p (move_clock m) (lists rs) = refl
 guard_kept p (move_clock m) (shows x) = refl
 guard_kept p (move_clock m) (refused k) = refl
 guard_kept p (show l m) answer = refl
+guard_kept p (sold l) answer = refl
 
 end_and_guard : (start duration guard : ℕ) → start + (duration + guard) ≡ start + duration + guard
 end_and_guard start duration guard = omega arith
@@ -59,5 +61,6 @@ rightly_fed = record {
   offer_keeps = λ p r a. refl;
   listing_keeps = λ p n r a. refl;
   showing_keeps = λ p l m a. refl;
+  asking_keeps = λ p l a. refl;
   refusal_keeps = refusal_kept;
 }

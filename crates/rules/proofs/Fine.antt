@@ -8,7 +8,7 @@ use Rattle.units.specs.declared.Link.{Link}
 use Rattle.units.specs.Limits.{most_bookings, place_size}
 use Rattle.units.proofs.Tests.{Rising}
 use Rattle.rules.specs.Calls.{numbers}
-use Rattle.rules.specs.Tables.{Tables, tables, held, event_table, free_table, Fine}
+use Rattle.rules.specs.Tables.{Tables, tables, held, event_table, free_table, totals_table, Fine}
 use Rattle.rules.specs.Sound.{Obeys}
 use Rattle.rules.proofs.Tests.{Sized, sized_tells}
 use Rattle.rules.proofs.Obeys.{sound_facts, sound_obeys, sound_tables}
@@ -42,3 +42,7 @@ module _ {links : List Link} {t : Tables} (fine : Fine links t) where
   pub free_are : t.free ≡ free_table links (held t)
   unfolding tables
   free_are = ap (λ x. x.free) (sound_tables links t fine.is_sound)
+
+  pub totals_are : t.totals ≡ totals_table links (held t)
+  unfolding tables
+  totals_are = ap (λ x. x.totals) (sound_tables links t fine.is_sound)

@@ -7,17 +7,17 @@ use Prim.Native.Nat.{ℕ, ◌-◌, ◌*◌, ◌≤◌, ◌<◌}
 use native.Mathlib.Omega.{arith}
 use lib.ListN.{length, length-map}
 use Rattle.units.specs.declared.Link.{Link}
-use Rattle.units.specs.Limits.{most_links, most_bookings, most_events, place_size, last_minute, most_guard}
+use Rattle.units.specs.Limits.{most_links, most_bookings, most_events, most_totals, place_size, last_minute, most_guard}
 use Rattle.units.specs.Lists.{Within, count_from, padded, All, Distinct}
 use Rattle.units.proofs.Tests.{Tells, ◌&◌, at_most, all_tells, Rising, rising_tells, Side, below, above, side}
-use Rattle.units.proofs.Permuted.{length_permuted, all_permuted, flatten_permuted, distinct_permuted}
+use Rattle.units.proofs.Permuted.{sum_permuted, length_permuted, all_permuted, flatten_permuted, distinct_permuted}
 use Rattle.units.proofs.Parts.{all_map, all_of, all_at, rising_distinct}
 use Rattle.units.proofs.Padded.{length_padded, length_count, rows, length_rows}
 use Rattle.timeline.proofs.Events.{later_permuted, later_length}
 use Rattle.timeline.proofs.Steady.{last_event_is, steady}
 use Rattle.free_table.specs.Figures.{table}
 use Rattle.free_table.proofs.Figures.{length_table}
-use Rattle.rules.specs.Plain.{Booking, Plain, until, times, taken, capacity, free, with_book}
+use Rattle.rules.specs.Plain.{Booking, Plain, until, times, taken, work, sold_work, capacity, free, with_book}
 use Rattle.rules.specs.Calls.{numbers}
 use Rattle.rules.specs.Tables.{Tables, tables, held, place, booking_at, by_number, events_of, booking_ok, none_oversold, sized, sound_with, sound}
 use Rattle.rules.specs.Sound.{LinkRight, BookingRight, Obeys}
@@ -45,6 +45,9 @@ module _ (links : List Link) (p : Plain) {bs cs : List Booking} (q : Permᴰ bs 
   pub events_permuted : events_of (with_book p bs) ≡ events_of (with_book p cs)
   events_permuted = ap (λ (es : List ℕ). p.clock ∷ es) (later_permuted p.clock (flatten_permuted (Permᴰ.map (times p) q)))
 
+  pub sold_permuted : sold_work (with_book p bs) ≡ sold_work (with_book p cs)
+  sold_permuted = fun_ext λ l. sum_permuted (Permᴰ.map (λ b. work b l) q)
+
   pub tables_permuted : Distinct (numbers bs) → tables links (with_book p bs) ≡ tables links (with_book p cs)
   unfolding tables
   tables_permuted d = λ i. record {
@@ -52,6 +55,7 @@ module _ (links : List Link) (p : Plain) {bs cs : List Booking} (q : Permᴰ bs 
     events = padded most_events (events_permuted i);
     free = table most_events (length links) (free_permuted i) (events_permuted i);
     book = padded (most_bookings * place_size) (flatten (map place (by_number_permuted q d i)));
+    totals = padded most_totals (map (sold_permuted i) (count_from 0 (length links)));
   }
 
   pub obeys_permuted : Obeys links (with_book p bs) → Obeys links (with_book p cs)
@@ -193,4 +197,5 @@ module _ (links : List Link) (p : Plain) (o : Obeys links p) where
       free_right = length_table (length links) (free links p) count.1 most_events (events_of p) few_events;
       book_right = length_padded 0 (most_bookings * place_size) (flatten (map place (by_number p.bookings)))
           (rw (length_rows place place_size (by_number p.bookings) (place_rows (by_number p.bookings) (all_permuted Short (Permᴰ.symm (by_number_is p.bookings)) all_short)), length_permuted (by_number_is p.bookings)) (let few = o.not_too_many in omega arith));
+      totals_right = length_padded 0 most_totals (map (sold_work p) (count_from 0 (length links))) (rw (length-map, length_count) count.1);
     })

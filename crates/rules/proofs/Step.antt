@@ -23,7 +23,7 @@ use Rattle.choice.specs.Carrying.{carries as carries_by}
 use Rattle.listing.specs.Ranges.{ranges}
 use Rattle.histories.specs.Kinds as kinds
 use Rattle.rules.specs.Plain.{Booking, Plain, empty, span, terms, until, uses, taken, capacity, graph, free, low, with_book}
-use Rattle.rules.specs.Calls.{Ask, book, offer, list, cancel, move_clock, show, Call, set_up, set_up_with, ask, Answer, done, starts, lists, shows, refused, refuse, check, checked, numbers, stands, number_ok, request_ok, own_checks, request_checks, breaks_off, chosen, best, every, put_in, take_out, move_to, next, list_fits}
+use Rattle.rules.specs.Calls.{Ask, book, offer, list, cancel, move_clock, show, sold, Call, set_up, set_up_with, ask, Answer, done, starts, lists, shows, refused, refuse, check, checked, numbers, stands, number_ok, request_ok, own_checks, request_checks, breaks_off, chosen, best, every, put_in, take_out, move_to, next, list_fits}
 use Rattle.rules.specs.Tables.{Tables, tables, held, sized, guard_check, table_checks}
 use Rattle.rules.specs.Desk.{answer, answer_with, left_by, outcome}
 use Rattle.rules.specs.Sound.{LinkRight, BookingRight, Obeys}
@@ -34,7 +34,7 @@ use Rattle.rules.proofs.Checks.{done≢refused, Passed, checked_elim, passed_all
 use Rattle.rules.proofs.Exits.{set_up_answer}
 use Rattle.rules.proofs.Tests.{links_tell, sized_tells, RequestRight, request_right}
 use Rattle.rules.proofs.Choices.{choice_by, GoodGrant, best_elim}
-use Rattle.rules.proofs.Obeys.{right_in, free_permuted, tables_permuted, held_ordered, tables_ordered, tables_sound, tables_sized}
+use Rattle.rules.proofs.Obeys.{right_in, free_permuted, sold_permuted, tables_permuted, held_ordered, tables_ordered, tables_sound, tables_sized}
 
 -- ---- setting up
 
@@ -148,6 +148,7 @@ module _ (links : List Link) (p : Plain) {bs cs : List Booking} (q : Permᴰ bs 
   answer_permuted (cancel n) = ap (λ x. checked refuse (check refusals.bad_field (number_ok n) ∷ check refusals.not_standing x ∷ []) done) (stands_permuted n)
   answer_permuted (move_clock m) = refl
   answer_permuted (show l m) = ap (λ x. checked refuse (own_checks links (with_book p bs) (show l m)) (shows (capacity links l - x))) (taken_permuted p q l m)
+  answer_permuted (sold l) = ap (λ (f : ℕ → ℕ). checked refuse (own_checks links (with_book p bs) (sold l)) (shows (f l))) (sold_permuted links p q)
 
 -- ---- one call
 
@@ -164,6 +165,7 @@ list_checked links p (list n r) = by (eqb n list_size)
 list_checked links p (cancel n) = refl
 list_checked links p (move_clock m) = refl
 list_checked links p (show l m) = refl
+list_checked links p (sold l) = refl
 
 -- a check that is passed, behind another, changes nothing
 passed_behind : (k l : ℕ) (t : Bool) (x : Answer) → checked refuse (check k t ∷ check l true ∷ []) x ≡ checked refuse (check k t ∷ []) x
@@ -217,6 +219,7 @@ module _ (links : List Link) (p : Plain) (o : Obeys links p) where
   leaves (ask (move_clock m)) (shows x) w = again
   leaves (ask (move_clock m)) (refused k) w = by_number_0 (eqb k.number 0)
   leaves (ask (show l m)) a w = refl
+  leaves (ask (sold l)) a w = refl
 
   -- the next state obeys the rules, whatever the call
   Next : Call → Answer → Type 0
@@ -240,6 +243,7 @@ module _ (links : List Link) (p : Plain) (o : Obeys links p) where
   stays_obeyed (ask (cancel n)) = checked_elim refuse (Next (ask (cancel n))) (own_checks links p (cancel n)) done (λ ok. obeys_take_out links p n o) (λ k. o)
   stays_obeyed (ask (move_clock m)) = checked_elim refuse (Next (ask (move_clock m))) (own_checks links p (move_clock m)) done (λ ok. obeys_move_to links p m (leb-true m last_minute ok.0) o) (λ k. o)
   stays_obeyed (ask (show l m)) = o
+  stays_obeyed (ask (sold l)) = o
 
   module _ (count : Within 1 most_links (length links)) where
     same_answer : (c : Call) → answer_with links (held (tables links p)) c ≡ answer_with links p c

@@ -9,7 +9,7 @@ use lib.Dec.{leb}
 use lib.ListN.{length, get_or}
 use Rattle.units.specs.declared.Link.{Link}
 use Rattle.units.specs.declared.Request.{Request}
-use Rattle.units.specs.Limits.{last_node, most_bandwidth, longest, last_minute, last_number, most_links, most_events, most_bookings, place_size}
+use Rattle.units.specs.Limits.{last_node, most_bandwidth, longest, last_minute, last_number, most_links, most_events, most_bookings, most_totals, place_size}
 use Rattle.units.specs.Lists.{Within, All}
 use Rattle.units.proofs.Tests.{Tells, ◌&◌, at_most, less_than, equals, differs, in_range, all_tells, equal_tells}
 use Rattle.units.proofs.Search.{all_from_all, all_allFrom}
@@ -86,10 +86,10 @@ none_oversold_tells links p m = (
 pub same_tells : (s t : Tables) → Tells (same s t) (s ≡ t)
 same_tells s t =
     let b = equals s.head.clock.0 t.head.clock.0 & equals s.head.links t.head.links & equals s.head.bookings t.head.bookings
-    & equals s.head.guard.0 t.head.guard.0 & equal_tells s.events t.events & equal_tells s.free t.free & equal_tells s.book t.book in (
+    & equals s.head.guard.0 t.head.guard.0 & equal_tells s.events t.events & equal_tells s.free t.free & equal_tells s.book t.book & equal_tells s.totals t.totals in (
       (λ e. let h = b.0 e in λ i. record
-          { head = record { clock = record { 0 = h.0.0.0.0.0.0 i }; links = h.0.0.0.0.0.1 i; bookings = h.0.0.0.0.1 i; guard = record { 0 = h.0.0.0.1 i } }; events = h.0.0.1 i; free = h.0.1 i; book = h.1 i }),
-      λ e. b.1 ((((((ap (λ x. x.head.clock.0) e, ap (λ x. x.head.links) e), ap (λ x. x.head.bookings) e), ap (λ x. x.head.guard.0) e), ap (λ x. x.events) e), ap (λ x. x.free) e), ap (λ x. x.book) e),
+          { head = record { clock = record { 0 = h.0.0.0.0.0.0.0 i }; links = h.0.0.0.0.0.0.1 i; bookings = h.0.0.0.0.0.1 i; guard = record { 0 = h.0.0.0.0.1 i } }; events = h.0.0.0.1 i; free = h.0.0.1 i; book = h.0.1 i; totals = h.1 i }),
+      λ e. b.1 (((((((ap (λ x. x.head.clock.0) e, ap (λ x. x.head.links) e), ap (λ x. x.head.bookings) e), ap (λ x. x.head.guard.0) e), ap (λ x. x.events) e), ap (λ x. x.free) e), ap (λ x. x.book) e), ap (λ x. x.totals) e),
     )
 
 pub record Sized (links : List Link) (t : Tables) : Type 0 where
@@ -97,10 +97,12 @@ pub record Sized (links : List Link) (t : Tables) : Type 0 where
   pub events_right : length t.events ≡ most_events
   pub free_right : length t.free ≡ most_events * most_links
   pub book_right : length t.book ≡ most_bookings * place_size
+  pub totals_right : length t.totals ≡ most_totals
 
 pub sized_tells : (links : List Link) (t : Tables) → Tells (sized links t) (Sized links t)
 sized_tells links t =
-    let b = in_range 1 most_links (length links) & equals (length t.events) most_events & equals (length t.free) (most_events * most_links) & equals (length t.book) (most_bookings * place_size) in (
-      (λ e. let h = b.0 e in record { links_right = h.0.0.0; events_right = h.0.0.1; free_right = h.0.1; book_right = h.1 }),
-      λ s. b.1 (((s.links_right, s.events_right), s.free_right), s.book_right),
+    let b = in_range 1 most_links (length links) & equals (length t.events) most_events & equals (length t.free) (most_events * most_links) & equals (length t.book) (most_bookings * place_size)
+    & equals (length t.totals) most_totals in (
+      (λ e. let h = b.0 e in record { links_right = h.0.0.0.0; events_right = h.0.0.0.1; free_right = h.0.0.1; book_right = h.0.1; totals_right = h.1 }),
+      λ s. b.1 ((((s.links_right, s.events_right), s.free_right), s.book_right), s.totals_right),
     )

@@ -14,7 +14,7 @@ pub use Rattle.histories.specs.Checks.{Check, check, first_refusal}
 unfoldable pub use Rattle.histories.specs.Checks.{checked}
 use Rattle.histories.specs.Kinds as kinds
 pub use Rattle.histories.specs.Kinds.{set_up_with, ask}
-use Rattle.rules.specs.Plain.{Booking, Plain, empty, with_book, terms, span, until, graph, free, carries_in, carries, low}
+use Rattle.rules.specs.Plain.{Booking, Plain, empty, with_book, terms, span, until, sold_work, graph, free, carries_in, carries, low}
 
 -- the calls on a desk that is set up; a listing is asked with the size of the list that it is lent
 pub data Ask : Type 0 where
@@ -24,6 +24,7 @@ pub data Ask : Type 0 where
   cancel : ℕ → Ask
   move_clock : ℕ → Ask
   show : ℕ → ℕ → Ask
+  sold : ℕ → Ask
 
 -- a set-up is asked with the guard
 abbrev pub Call : Type 0
@@ -100,6 +101,7 @@ list_fits (list n r) = eqb n list_size
 list_fits (cancel n) = true
 list_fits (move_clock m) = true
 list_fits (show l m) = true
+list_fits (sold l) = true
 
 -- the checks of a call on sound tables, in document 01's order; 8 is not among them: the choice says it. A listing's list is
 -- checked before the tables' soundness, and is among them so that the plain book alone gives the answer
@@ -115,6 +117,7 @@ own_checks links p (list n r) = check refusals.bad_list (list_fits (list n r)) �
 own_checks links p (cancel n) = check refusals.bad_field (number_ok n) ∷ check refusals.not_standing (stands n p.bookings) ∷ []
 own_checks links p (move_clock m) = check refusals.bad_field (leb m last_minute) ∷ check refusals.clock_back (leb p.clock m) ∷ []
 own_checks links p (show l m) = check refusals.bad_field (ltb l (length links) && within p.clock last_shown m) ∷ []
+own_checks links p (sold l) = check refusals.bad_field (ltb l (length links)) ∷ []
 
 -- document 02's 'first minute m, from low on, such that no single path has the bandwidth free throughout low to m'
 unfoldable pub breaks_off : List Link → Plain → Request → ℕ
@@ -141,6 +144,7 @@ result links p (list n r) = lists (every links p r)
 result links p (cancel n) = done
 result links p (move_clock m) = done
 result links p (show l m) = shows (free links p l m)
+result links p (sold l) = shows (sold_work p l)
 
 -- a start, or 'no start' with its minute
 abbrev pub StartOr8 : Answer → Type 0
@@ -154,8 +158,9 @@ InForm (list n r) a = (rs : List Range) × (a ≡ lists rs)
 InForm (cancel n) a = a ≡ done
 InForm (move_clock m) a = a ≡ done
 InForm (show l m) a = (x : ℕ) × (a ≡ shows x)
+InForm (sold l) a = (x : ℕ) × (a ≡ shows x)
 
--- offers, listings and showings write no table
+-- offers, listings, showings and questions for a total write no table
 abbrev pub writes : Ask → Bool
 writes (book n r) = true
 writes (offer r) = false
@@ -163,6 +168,7 @@ writes (list n r) = false
 writes (cancel n) = true
 writes (move_clock m) = true
 writes (show l m) = false
+writes (sold l) = false
 
 abbrev pub put_in : Booking → Plain → Plain
 put_in b p = with_book p (b ∷ p.bookings)
@@ -200,3 +206,4 @@ next p (ask (list n r)) a = p
 next p (ask (cancel n)) a = on_done a (take_out n p) p
 next p (ask (move_clock m)) a = on_done a (move_to m p) p
 next p (ask (show l m)) a = p
+next p (ask (sold l)) a = p

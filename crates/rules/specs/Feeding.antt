@@ -5,7 +5,7 @@ use Rattle.units.specs.declared.Request.{Request}
 use Rattle.units.specs.Lists.{select}
 use Rattle.choice.specs.Choice.{Grant}
 use Rattle.rules.specs.Plain.{Plain, terms}
-use Rattle.rules.specs.Calls.{Ask, book, offer, list, cancel, move_clock, show, Call, set_up, ask, Refusal, Answer, done, starts, refused, next}
+use Rattle.rules.specs.Calls.{Ask, book, offer, list, cancel, move_clock, show, sold, Call, set_up, ask, Refusal, Answer, done, starts, refused, next}
 
 pub record RightlyFed : Type 0 where
   -- 'set-up makes the clock 0 and the list empty', and writes the guard 'as asked'
@@ -21,8 +21,9 @@ pub record RightlyFed : Type 0 where
   -- 'a clock move sets the clock and takes out all whose end is at or before it', which goes by 'end plus guard'
   pub clock_set : (p : Plain) (m : ℕ) → (next p (ask (move_clock m)) done).clock ≡ m
   pub ended_dropped : (p : Plain) (m : ℕ) → (next p (ask (move_clock m)) done).bookings ≡ select (λ b. ltb m (b.grant.start + b.terms.duration + p.guard)) p.bookings
-  -- 'offers, showings and refused calls change nothing', nor do listings
+  -- 'offers, showings and refused calls change nothing', nor do listings and questions for a total
   pub offer_keeps : (p : Plain) (r : Request) (a : Answer) → next p (ask (offer r)) a ≡ p
   pub listing_keeps : (p : Plain) (n : ℕ) (r : Request) (a : Answer) → next p (ask (list n r)) a ≡ p
   pub showing_keeps : (p : Plain) (l m : ℕ) (a : Answer) → next p (ask (show l m)) a ≡ p
+  pub asking_keeps : (p : Plain) (l : ℕ) (a : Answer) → next p (ask (sold l)) a ≡ p
   pub refusal_keeps : (p : Plain) (c : Call) (f : Refusal) → next p c (refused f) ≡ p

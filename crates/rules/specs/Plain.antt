@@ -2,8 +2,9 @@
 use Rattle.std.specs.Prelude.{List, [], map, Bool, ℕ, ◌-◌, length, get_or}
 use Rattle.units.specs.declared.Link.{Link}
 use Rattle.units.specs.declared.Request.{Request}
-use Rattle.units.specs.Lists.{if_so, sum}
+use Rattle.units.specs.Lists.{if_so, member, sum}
 use Rattle.units.specs.Spans.{low_at, held_for, release}
+use Rattle.units.specs.Work.{work_of}
 use Rattle.path_search.specs.Paths.{Graph}
 use Rattle.choice.specs.Choice.{Grant}
 use Rattle.choice.specs.Carrying.{carries as throughout}
@@ -60,6 +61,14 @@ times p b = stretches.times (stretch p b)
 -- what the bookings take together of link l in minute m
 abbrev pub taken : Plain → ℕ → ℕ → ℕ
 taken p l m = sum (map (λ b. uses p b l m) p.bookings)
+
+-- document 02's sold work of b on link l: 'bandwidth times duration, guard not counted'
+abbrev pub work : Booking → ℕ → ℕ
+work b l = if_so (member l b.grant.path) (work_of b.terms.bandwidth b.terms.duration)
+
+-- 'the sum, over standing bookings that use it'
+abbrev pub sold_work : Plain → ℕ → ℕ
+sold_work p l = sum (map (λ b. work b l) p.bookings)
 
 -- what stands past the end of the link list
 abbrev pub no_link : Link

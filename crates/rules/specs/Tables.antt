@@ -3,7 +3,7 @@ use Rattle.std.specs.Prelude.{◌≡◌, Bool, true, ◌&&◌, ℕ, ◌*◌, leb
 use mathlib.Core.List.{List, [], ◌∷◌, map, flatten}
 use Rattle.units.specs.declared.Link.{Link}
 use Rattle.units.specs.declared.Head.{Head}
-use Rattle.units.specs.Limits.{most_links, most_hops, most_bookings, most_bandwidth, longest, last_minute, most_guard, most_events, place_size}
+use Rattle.units.specs.Limits.{most_links, most_hops, most_bookings, most_bandwidth, longest, last_minute, most_guard, most_events, most_totals, place_size}
 use Rattle.units.specs.Refusals as refusals
 use Rattle.units.specs.Lists.{within, count_from, padded, equal, rising, all}
 use Rattle.units.specs.Search.{all_from}
@@ -13,7 +13,7 @@ use Rattle.path_search.specs.Paths.{path_ok}
 use Rattle.plain_book.specs.Bookings as bookings
 use Rattle.book.specs.declared.Booking.{Booking as Place}
 use Rattle.book.specs.Places.{booking_in, figures}
-use Rattle.rules.specs.Plain.{Booking, Plain, until, times, taken, capacity, graph, free}
+use Rattle.rules.specs.Plain.{Booking, Plain, until, times, taken, sold_work, capacity, graph, free}
 use Rattle.rules.specs.Calls.{Call, set_up_with, ask, Check, check, numbers, ends_ok, number_ok, list_fits}
 
 pub record Tables : Type 0 where
@@ -21,6 +21,7 @@ pub record Tables : Type 0 where
   pub events : List ℕ
   pub free : List ℕ
   pub book : List ℕ
+  pub totals : List ℕ
 
 -- what a place of the book holds of a booking
 abbrev pub place_of : Booking → Place
@@ -67,9 +68,13 @@ free_table links p = table most_events (length links) (free links p) (events_of 
 abbrev pub book_table : Plain → List ℕ
 book_table p = padded (most_bookings * place_size) (flatten (map place (by_number p.bookings)))
 
+-- document 02's '64 totals, one for each link'
+abbrev pub totals_table : List Link → Plain → List ℕ
+totals_table links p = padded most_totals (map (sold_work p) (count_from 0 (length links)))
+
 -- the only tables that are right for these links and this plain book
 unfoldable pub tables : List Link → Plain → Tables
-tables links p = record { head = head_of links p; events = event_table p; free = free_table links p; book = book_table p }
+tables links p = record { head = head_of links p; events = event_table p; free = free_table links p; book = book_table p; totals = totals_table links p }
 
 -- the booking at place i of a book table
 abbrev pub booking_at : List ℕ → ℕ → Booking
@@ -104,14 +109,16 @@ none_oversold links p m = all_from 0 (length links) (λ l. leb (taken p l m) (ca
 abbrev pub same : Tables → Tables → Bool
 same s t =
     eqb s.head.clock.0 t.head.clock.0 && eqb s.head.links t.head.links && eqb s.head.bookings t.head.bookings
-    && eqb s.head.guard.0 t.head.guard.0 && equal s.events t.events && equal s.free t.free && equal s.book t.book
+    && eqb s.head.guard.0 t.head.guard.0 && equal s.events t.events && equal s.free t.free && equal s.book t.book && equal s.totals t.totals
 
--- the sizes that document 01 states: of the link list, events, free figures and book
-abbrev pub sizes_ok : ℕ → ℕ → ℕ → ℕ → Bool
-sizes_ok links events free places = within 1 most_links links && eqb events most_events && eqb free (most_events * most_links) && eqb places (most_bookings * place_size)
+-- the sizes that documents 01 and 02 state: of the link list, events, free figures, book and totals
+abbrev pub sizes_ok : ℕ → ℕ → ℕ → ℕ → ℕ → Bool
+sizes_ok links events free places totals =
+    within 1 most_links links && eqb events most_events && eqb free (most_events * most_links) && eqb places (most_bookings * place_size)
+    && eqb totals most_totals
 
 abbrev pub sized : List Link → Tables → Bool
-sized links t = sizes_ok (length links) (length t.events) (length t.free) (length t.book)
+sized links t = sizes_ok (length links) (length t.events) (length t.free) (length t.book) (length t.totals)
 
 -- document 01's 'sound', of tables that hold p. Where no link is oversold at an event none is in any minute:
 -- a standing booking that holds a link before the clock holds it at the clock
@@ -141,8 +148,8 @@ table_checks links t (set_up_with guard) = check refusals.bad_size (sized links 
 table_checks links t (ask a) = lent_checks links t (list_fits a)
 
 -- the tables as they are lent
-abbrev pub lent : Head → List ℕ → List ℕ → List ℕ → Tables
-lent head events free places = record { head = head; events = events; free = free; book = places }
+abbrev pub lent : Head → List ℕ → List ℕ → List ℕ → List ℕ → Tables
+lent head events free places totals = record { head = head; events = events; free = free; book = places; totals = totals }
 
 -- tables of the right sizes that are sound
 pub record Fine (links : List Link) (t : Tables) : Type 0 where

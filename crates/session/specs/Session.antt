@@ -2,7 +2,7 @@
 use Rattle.std.specs.Prelude.{List, [], ◌∷◌, ◌++◌, ℕ, ◌+◌, ◌*◌, ◌/◌, eqb, length, drop, replicate}
 use Rattle.std.specs.Simd.{first_chunks}
 use Rattle.units.specs.declared.Link.{Link}
-use Rattle.units.specs.Limits.{most_links, most_bookings, most_events, place_size}
+use Rattle.units.specs.Limits.{most_links, most_bookings, most_events, most_totals, place_size}
 use Rattle.layout.specs.Layout.{order_bytes}
 use Rattle.layout.specs.Records.{if_passed}
 use Rattle.report.specs.declared.Report.TheVariants.{DeskLinks, DeskRefused}
@@ -49,7 +49,7 @@ orders bytes = whole_orders bytes ++ last_piece (cut_short bytes)
 -- the tables that the program holds before the set-up; an accepted one leaves nothing of them
 unfoldable pub blank : Tables
 blank =
-    lent (record { clock = record { 0 = 0 }; links = 0; bookings = 0; guard = record { 0 = 0 } }) (replicate most_events 0) (replicate (most_events * most_links) 0) (replicate (most_bookings * place_size) 0)
+    lent (record { clock = record { 0 = 0 }; links = 0; bookings = 0; guard = record { 0 = 0 } }) (replicate most_events 0) (replicate (most_events * most_links) 0) (replicate (most_bookings * place_size) 0) (replicate most_totals 0)
 
 -- the session at its first order
 abbrev pub started : Opened → Running

@@ -26,6 +26,7 @@ use streams::reader::{Block, Input, read_start};
 use streams::writer::{Lines, Output, write_whole};
 use units::{
     BOOK_FIGURES, Bandwidth, Duration, EVENTS, FREE_FIGURES, Head, LINKS, Link, Minute, Refusal,
+    TOTALS,
 };
 
 // The turns of the loop over the pieces of an input: no input has as many.
@@ -239,8 +240,9 @@ fn run_on<R: Input, W: Output>(
     events: &mut [u32],
     free: &mut [u32],
     book: &mut [u32],
+    totals: &mut [u64],
 ) -> io::Result<bool>
-    requires blank { lent head.old events.old free.old book.old ≡ blank }
+    requires blank { lent head.old events.old free.old book.old totals.old ≡ blank }
     requires intact { W.intact output.old ≡ true }
     ensures intact { OnOk result (W.intact output.new ≡ true) }
     ensures long { IfOk result (λ ended. ended ≡ false → Long (R.remaining input.old)) }
@@ -251,7 +253,7 @@ fn run_on<R: Input, W: Output>(
 {
     let mut first = [0u8; FIRST_BYTES];
     let size = read_start(input, &mut first)?;
-    match open_desk(&first[..size], places, head, events, free, book) {
+    match open_desk(&first[..size], places, head, events, free, book, totals) {
         Err(refusal) => {
             write_start(output, Err(refusal))?;
             Ok(true)
@@ -263,6 +265,7 @@ fn run_on<R: Input, W: Output>(
                 events,
                 free,
                 book,
+                totals,
             };
             run_opened(input, output, &mut desk)
         }
@@ -295,6 +298,7 @@ pub fn run_session<R: Input, W: Output>(input: &mut R, output: &mut W) -> io::Re
     let mut events = [0u32; EVENTS];
     let mut free = [0u32; FREE_FIGURES];
     let mut book = [0u32; BOOK_FIGURES];
+    let mut totals = [0u64; TOTALS];
     run_on(
         input,
         output,
@@ -303,5 +307,6 @@ pub fn run_session<R: Input, W: Output>(input: &mut R, output: &mut W) -> io::Re
         &mut events,
         &mut free,
         &mut book,
+        &mut totals,
     )
 }

@@ -1,19 +1,21 @@
--- What the contracts of the seven calls say: the answer and the tables as they are handed back, from the one outcome.
+-- What the contracts of the eight calls say: the answer and the tables as they are handed back, from the one outcome.
 use Rattle.std.specs.Prelude.{List, ℕ, Result, Ok, Err}
 use Rattle.units.specs.declared.Link.{Link}
 use Rattle.units.specs.declared.Bandwidth.{Bandwidth}
+use Rattle.units.specs.declared.Work.{Work}
 use Rattle.units.specs.declared.Refusal.{Refusal}
 use Rattle.units.specs.Refusals.{number}
 use Rattle.choice.specs.declared.ChoiceRecord.{ChoiceRecord}
 use Rattle.listing.specs.Ranges.{list_table}
 use Rattle.sound_calls.specs.declared.Shown.{Shown}
+use Rattle.sound_calls.specs.declared.Sold.{Sold}
 use Rattle.sound_calls.specs.declared.Listed.{Listed}
 use Rattle.rules.specs.Calls.{Call, Answer, done, starts, lists, shows, refused, values}
 use Rattle.rules.specs.Numbers.{Told}
 use Rattle.rules.specs.Tables.{Tables}
 use Rattle.rules.specs.Desk.{outcome}
 
--- an answer's number and values, for a booking or an offer, for a listing, and for a showing
+-- an answer's number and values, for a booking or an offer, for a listing, for a showing, and for a question for a total
 abbrev pub choice_shown : Answer → ChoiceRecord
 choice_shown a = record { refusal = (values a).number; start = record { 0 = (values a).start }; path = record { count = (values a).count; links = (values a).path }; at = record { 0 = (values a).at } }
 
@@ -37,7 +39,10 @@ list_left (refused r) old = old
 abbrev pub shown : Answer → Shown
 shown a = record { refusal = (values a).number; free = record { 0 = (values a).figure } }
 
--- a listing that is answered, and a showing, as they are handed out
+abbrev pub sold_shown : Answer → Sold
+sold_shown a = record { refusal = (values a).number; work = record { 0 = (values a).figure } }
+
+-- a listing that is answered, a showing, and a total, as they are handed out
 abbrev pub listed_values : Result ℕ Refusal → Listed
 listed_values (Ok count) = record { refusal = 0; count = count }
 listed_values (Err refusal) = record { refusal = number refusal; count = 0 }
@@ -45,6 +50,10 @@ listed_values (Err refusal) = record { refusal = number refusal; count = 0 }
 abbrev pub shown_values : Result Bandwidth Refusal → Shown
 shown_values (Ok free) = record { refusal = 0; free = free }
 shown_values (Err refusal) = record { refusal = number refusal; free = record { 0 = 0 } }
+
+abbrev pub sold_values : Result Work Refusal → Sold
+sold_values (Ok work) = record { refusal = 0; work = work }
+sold_values (Err refusal) = record { refusal = number refusal; work = record { 0 = 0 } }
 
 module _ (links : List Link) (t : Tables) (c : Call) where
   unfoldable pub choice_answer : ChoiceRecord
@@ -58,6 +67,9 @@ module _ (links : List Link) (t : Tables) (c : Call) where
 
   unfoldable pub shown_answer : Shown
   shown_answer = shown (outcome links t c).answer
+
+  unfoldable pub sold_answer : Sold
+  sold_answer = sold_shown (outcome links t c).answer
 
   -- the refusal number of a call that hands nothing else back; 0 if it is accepted
   unfoldable pub refusal_answer : ℕ

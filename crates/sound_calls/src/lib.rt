@@ -1,4 +1,4 @@
-// The six calls on a desk that is set up, on tables that are sound. No public calls: `desk_core` calls them behind its check
+// The seven calls on a desk that is set up, on tables that are sound. No public calls: `desk_core` calls them behind its check
 // of the tables, and so does the program, whose proof replaces the check. A refusal leaves every table as it came.
 #![tactic(auto)]
 
@@ -9,14 +9,14 @@ ghost use Rattle.choice.specs.Answer.{values};
 ghost use Rattle.rules.specs.Calls.{Ask, ask};
 ghost use Rattle.rules.specs.Tables.{Fine};
 ghost use Rattle.lent.specs.Lent.{tables_in, tables_of, SameLoans};
-ghost use Rattle.sound_calls.specs.Lent.{listed_values, shown_values, choice_answer, listed_answer, list_after, shown_answer, refusal_answer, tables_after};
+ghost use Rattle.sound_calls.specs.Lent.{listed_values, shown_values, sold_values, choice_answer, listed_answer, list_after, shown_answer, sold_answer, refusal_answer, tables_after};
 
 use changes::{advance, enter, take_out};
 use choice::Granted;
 use lent::{Desk, LentTables};
-use refusals::{check_booking, check_cancel, check_clock, check_offer, check_show};
+use refusals::{check_booking, check_cancel, check_clock, check_offer, check_show, check_sold};
 use starts::{all_starts, best_start};
-use units::{Bandwidth, LinkNumber, Minute, Refusal, Refused, Request};
+use units::{Bandwidth, LinkNumber, Minute, Refusal, Refused, Request, Work};
 
 // What a showing is answered: the number of a refusal, 0 if there is none, and the free bandwidth.
 #[repr(C)]
@@ -35,6 +35,28 @@ impl From<Result<Bandwidth, Refusal>> for Shown {
             Err(refusal) => Shown {
                 refusal: u32::from(refusal),
                 free: Bandwidth(0),
+            },
+        }
+    }
+}
+
+// What a question for a link's total is answered: the number of a refusal, 0 if there is none, and the sold work.
+#[repr(C)]
+#[derive(Clone, Copy)]
+pub struct Sold {
+    pub refusal: u32,
+    pub work: Work,
+}
+
+impl From<Result<Work, Refusal>> for Sold {
+    ghost from_gives = { λ answer sold. sold ≡ sold_values answer };
+
+    fn from(answer: Result<Work, Refusal>) -> Sold {
+        match answer {
+            Ok(work) => Sold { refusal: 0, work },
+            Err(refusal) => Sold {
+                refusal: u32::from(refusal),
+                work: Work(0),
             },
         }
     }
@@ -93,6 +115,15 @@ pub fn show(tables: &LentTables<'_>, link: LinkNumber, minute: Minute) -> Result
 {
     check_show(tables, link, minute)?;
     Ok(tables.free_table().figure(link, minute))
+}
+
+// The sold work of a link: bandwidth times duration of each standing booking that uses it.
+pub fn sold_work(tables: &LentTables<'_>, link: LinkNumber) -> Result<Work, Refusal>
+    requires { Fine tables.now.links.now (tables_in tables.now) }
+    ensures { sold_values result ≡ sold_answer tables.now.links.now (tables_in tables.now) (ask (Ask.sold link.0)) }
+{
+    check_sold(tables, link)?;
+    Ok(Work(tables.totals[link.0 as usize]))
 }
 
 // Every start there is: the ranges of possible start minutes of an offer's window, and how many there are. It writes the

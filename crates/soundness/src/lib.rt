@@ -1,4 +1,4 @@
-// Document 01's 'sound': links and book obey the rules, no link is oversold, and head, events and free figures are the
+// Document 01's 'sound': links and book obey the rules, no link is oversold, and head, events, free figures and totals are the
 // ones that links, clock, guard and book give. Every call but the set-up asks this first. Nothing here writes a lent table.
 #![tactic(auto)]
 
@@ -9,7 +9,8 @@ ghost use Rattle.path_search.specs.Paths.{path_ok};
 ghost use Rattle.rules.specs.Plain.{graph};
 ghost use Rattle.rules.specs.Tables.{booking_ok, booking_of, held, held_by, sized, sound};
 ghost use Rattle.lent.specs.Lent.{tables_in};
-ghost use Rattle.rebuild.specs.Rebuilding.{place_path, CanRebuild};
+ghost use Rattle.book.specs.Places.{place_path};
+ghost use Rattle.rebuild.specs.Rebuilding.{CanRebuild};
 ghost use Rattle.soundness.specs.Checking.{all_zero, tidy, book_ok, FiguresRight, BookFits};
 
 mod checked;
@@ -20,6 +21,7 @@ use lent::LentTables;
 use limits::{guard_ok, links_right, number_ok};
 use path_search::NODES;
 use rebuild::rebuild;
+use totals::totals_right;
 use units::{
     BOOKINGS, EVENTS, FREE_FIGURES, Head, MAX_BANDWIDTH, MAX_DURATION, MAX_MINUTE, PATH_LINKS,
     PLACE, release,
@@ -100,10 +102,10 @@ fn book_right(head: Head, links: CheckedLinks<'_>, book: &[u32]) -> bool
     all_zero(&book[count * PLACE..])
 }
 
-// Whether no link is oversold, and events and free figures are the ones that links, clock, guard and book give.
+// Whether no link is oversold, and events, free figures and totals are the ones that links, clock, guard and book give.
 fn figures_right(tables: &LentTables<'_>) -> bool
     requires { CanRebuild tables.now.links.now tables.now.head tables.now.book.now tables.now.events.now tables.now.free.now }
-    ensures { (result ≡ true) ↔ FiguresRight tables.now.links.now (held (tables_in tables.now)) tables.now.events.now tables.now.free.now }
+    ensures { (result ≡ true) ↔ FiguresRight tables.now.links.now (held (tables_in tables.now)) tables.now.events.now tables.now.free.now tables.now.totals.now }
 {
     let mut events = [0; EVENTS];
     let mut free = [0; FREE_FIGURES];
@@ -115,6 +117,7 @@ fn figures_right(tables: &LentTables<'_>) -> bool
         tables.book,
     ) && tables.events == events.as_slice()
         && tables.free == free.as_slice()
+        && totals_right(tables.head, tables.book, tables.totals)
 }
 
 // Document 01's 'sound', of tables that have the right sizes.

@@ -7,6 +7,7 @@ ghost use Rattle.std.specs.Prelude.{◌≡◌, ℕ, ◌≤◌};
 ghost use Rattle.units.specs.Limits.{last_shown};
 ghost use Rattle.units.specs.Refusals.{number, number_of, without_minute};
 ghost use Rattle.units.specs.Spans.{low_of, span_of, most_span, release};
+ghost use Rattle.units.specs.Work.{work_of};
 ghost use Rattle.units.specs.declared.Link.{Link};
 ghost use Rattle.units.specs.Columns.{column, Reads};
 
@@ -18,6 +19,9 @@ pub const LINKS: usize = 64;
 
 // The figures of a row of the free table, one for each link that there may be.
 pub const ROW: usize = LINKS;
+
+// The totals of sold work, one for each link that there may be.
+pub const TOTALS: usize = LINKS;
 
 // The most links of a path: it meets no node twice.
 pub const PATH_LINKS: usize = 31;
@@ -126,6 +130,11 @@ pub struct Duration(pub u32);
 #[derive(Clone, Copy)]
 pub struct Bandwidth(pub u32);
 
+// Sold work: a bandwidth times the minutes for which it is sold, in Mb/s times minutes.
+#[repr(C)]
+#[derive(Clone, Copy)]
+pub struct Work(pub u64);
+
 // A link's place in the link list, from 0.
 #[repr(C)]
 #[derive(Clone, Copy)]
@@ -198,6 +207,13 @@ pub fn release(head: Head, start: Minute, duration: Duration) -> u64
     ensures { result ≡ release start.0 (span_of head duration.0) }
 {
     end_of(start, span_of(head, duration))
+}
+
+// The work of a booking on each of its links. Nothing else multiplies a bandwidth and a duration.
+pub fn work_of(bandwidth: Bandwidth, duration: Duration) -> Work
+    ensures { result.0 ≡ work_of bandwidth.0 duration.0 }
+{
+    Work(bandwidth.0 as u64 * duration.0 as u64)
 }
 
 // A field of the first 64 links of a list, zero past the last.

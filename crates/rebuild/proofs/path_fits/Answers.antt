@@ -7,7 +7,8 @@ use Rattle.std.proofs.lemmas.Iterator.Adapters.{serves_from_places}
 use Rattle.std.proofs.lemmas.Grind.{get_or_default_zero}
 use Rattle.units.specs.Limits.{most_links}
 use Rattle.free_table.specs.Looking.{enough_span}
-use Rattle.rebuild.specs.Rebuilding.{place_path, enough_path}
+use Rattle.book.specs.Places.{place_path}
+use Rattle.rebuild.specs.Rebuilding.{enough_path}
 use Rattle.rebuild.proofs.path_fits.Goals as goal
 
 pub all-requires-clause-callable : goal.all-requires-clause-callable

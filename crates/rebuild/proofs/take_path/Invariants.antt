@@ -1,6 +1,7 @@
 -- `take_path` meets its contract: the bandwidth is taken from the links before `link`, and what is left is to take from the others.
 use Rattle.std.proofs.Common.{◌≡◌, drop}
-use Rattle.rebuild.specs.Rebuilding.{place_path, less_path}
+use Rattle.book.specs.Places.{place_path}
+use Rattle.rebuild.specs.Rebuilding.{less_path}
 use Rattle.rebuild.proofs.take_path.Given as goal
 
 abbrev pub invariant-loop-link : goal.invariant-loop-link

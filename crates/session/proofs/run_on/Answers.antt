@@ -36,7 +36,7 @@ returns-in-Ok-clause-whole g c =
     let size = c.in_ok-size in
     let left = c.open_desk.new in
     let P : List ℕ → Type 0 = λ bytes. Appends (g.W.Write.contents c.args.output.now) (g.W.Write.contents c.run_opened.new.output) bytes in
-    let r : Running = at_first c.in-Ok.links.now (lent left.head left.events left.free left.book) in
+    let r : Running = at_first c.in-Ok.links.now (lent left.head left.events left.free left.book left.totals) in
     let whole = session_accepted (g.R.Read.remaining c.args.input.now) (g.R.Read.remaining c.read_start.new.input) (take size.size c.read_start.new.first) size.ensures.start _ c.requires.blank P r c.in-Ok.ensures.refusal (ap₂ at_first c.in-Ok.ensures.links c.in-Ok.ensures.tables) in
     search (rules, whole)
 
@@ -45,7 +45,7 @@ returns-in-Ok-clause-front g c =
     let size = c.in_ok-size in
     let left = c.open_desk.new in
     let P : List ℕ → Type 0 = λ bytes. AppendsFront (g.W.Write.contents c.args.output.now) (g.W.Write.contents c.run_opened.new.output) bytes in
-    let r : Running = at_first c.in-Ok.links.now (lent left.head left.events left.free left.book) in
+    let r : Running = at_first c.in-Ok.links.now (lent left.head left.events left.free left.book left.totals) in
     let fails = session_accepted (g.R.Read.remaining c.args.input.now) (g.R.Read.remaining c.read_start.new.input) (take size.size c.read_start.new.first) size.ensures.start _ c.requires.blank P r c.in-Ok.ensures.refusal (ap₂ at_first c.in-Ok.ensures.links c.in-Ok.ensures.tables) in
     search (rules, fails)
 

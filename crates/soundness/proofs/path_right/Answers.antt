@@ -3,7 +3,7 @@ use Rattle.std.proofs.Common.{sym, ap, ◌≡◌, ◌∙◌, ◌<◌, ◌≤◌,
 use lib.ListN.{length-take, get_or}
 use Rattle.rules.specs.Plain.{no_link, link}
 use Rattle.units.specs.Limits.{most_hops}
-use Rattle.rebuild.specs.Rebuilding.{place_path}
+use Rattle.book.specs.Places.{place_path}
 use Rattle.soundness.proofs.Going.{going_first, stops_first, stops_past, stops_elsewhere, stops_again, goes_further, goes_whole}
 use Rattle.soundness.proofs.path_right.Goals as goal
 use Rattle.soundness.proofs.path_right.Goals.{Start, In-Some, then-link-node-via-then-link-node, then-link-node-via-else-link-node+then-met-link}

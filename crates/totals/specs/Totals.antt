@@ -1,0 +1,38 @@
+-- What the totals of a book are, booking by booking, and what a place must be for its work to be added.
+use Rattle.std.specs.Prelude.{◌≡◌, List, [], ◌∷◌, map, ℕ, ◌+◌, ◌*◌, ◌≤◌, ◌<◌, length, get_or, set}
+use Rattle.units.specs.Limits.{most_totals, most_hops, most_bookings, place_size}
+use Rattle.units.specs.Lists.{sum, count_from, All, Distinct}
+use Rattle.units.specs.Work.{work_of, most_work}
+use Rattle.units.specs.declared.Head.{Head}
+use Rattle.book.specs.declared.Booking.{Booking as Place}
+use Rattle.book.specs.Places.{booking_in, place_path}
+use Rattle.rules.specs.Plain.{Booking, work}
+
+-- the work of a place's booking, and the totals with it added to each link of a path
+abbrev pub place_work : Place → ℕ
+place_work b = work_of b.bandwidth.0 b.duration.0
+
+unfoldable pub more_along : ℕ → List ℕ → List ℕ → List ℕ
+more_along x [] t = t
+more_along x (l ∷ ls) t = more_along x ls (set t l (get_or t l 0 + x))
+
+-- all totals of a list of bookings
+abbrev pub totals_of : List Booking → List ℕ
+totals_of bs = map (λ l. sum (map (λ b. work b l) bs)) (count_from 0 most_totals)
+
+-- no total is more than n bookings can add
+abbrev pub AtMost : ℕ → List ℕ → Type 0
+AtMost n t = (l : ℕ) → get_or t l 0 ≤ n * most_work
+
+-- a place whose work can be added: figures in range, and a path that meets no link twice
+pub record WorkRight (b : Place) : Type 0 where
+  pub work_right : place_work b ≤ most_work
+  pub count_right : b.count ≤ most_hops
+  pub links_right : All (λ l. l < most_totals) (place_path b)
+  pub links_differ : Distinct (place_path b)
+
+-- a book whose places, as many as the head counts, are such
+pub record CanTotal (head : Head) (book : List ℕ) : Type 0 where
+  pub few_bookings : head.bookings ≤ most_bookings
+  pub book_sized : length book ≡ most_bookings * place_size
+  pub places_right : (i : ℕ) → i < head.bookings → WorkRight (booking_in book i)

@@ -1,0 +1,48 @@
+// The sold work of each link, kept ready: a booking's work added to the totals of its links, and all totals anew from a head and its
+// book. Booking adds one; cancelling, moving the clock and the soundness check go through all. Nothing here knows what is free.
+#![tactic(auto)]
+
+ghost use Rattle.std.specs.Prelude.{◌≡◌, true, ◌↔◌, length};
+ghost use Rattle.units.specs.Limits.{most_totals, most_bookings};
+ghost use Rattle.book.specs.Places.{place_path};
+ghost use Rattle.rules.specs.Tables.{held_by};
+ghost use Rattle.totals.specs.Totals.{place_work, more_along, totals_of, AtMost, WorkRight, CanTotal};
+
+use book::{Booking, booking_at};
+use units::{Head, TOTALS, work_of};
+
+// Adds a booking's work to the total of each link of its path.
+#[tactic(auto, using(crate::proofs::Along::more_next, crate::proofs::Along::more_done))]
+pub fn add_work(totals: &mut [u64], booking: Booking)
+    requires right { WorkRight booking }
+    requires sized { length totals.old ≡ most_totals }
+    requires few { AtMost most_bookings totals.old }
+    ensures { totals.new ≡ more_along (place_work booking) (place_path booking) totals.old }
+{
+    let work = work_of(booking.bandwidth, booking.duration);
+    for &link in &booking.links[..booking.count as usize] {
+        totals[link as usize] += work.0;
+    }
+}
+
+// The totals of a head and its book, whatever the table held.
+pub fn write_totals(head: Head, book: &[u32], totals: &mut [u64])
+    requires can { CanTotal head book.now }
+    requires sized { length totals.old ≡ most_totals }
+    ensures { totals.new ≡ totals_of (held_by head book.now).bookings }
+{
+    totals.fill(0);
+    for place in (0..head.bookings as usize).rev() {
+        add_work(totals, booking_at(book, place));
+    }
+}
+
+// Whether the totals are the ones that a head and its book give.
+pub fn totals_right(head: Head, book: &[u32], totals: &[u64]) -> bool
+    requires { CanTotal head book.now }
+    ensures { (result ≡ true) ↔ (totals.now ≡ totals_of (held_by head book.now).bookings) }
+{
+    let mut sums = [0; TOTALS];
+    write_totals(head, book, &mut sums);
+    totals == sums.as_slice()
+}
