@@ -1,6 +1,6 @@
 -- The tables after an accepted call: all written anew from the book table of the plain book after it, one booking added to
 -- sound tables, or none at all. Each piece has its law below; here they are put together.
-use mathlib.Core.Path.{◌≡◌, refl, ap, ap₂, ◌∙◌}
+use mathlib.Core.Path.{◌≡◌, refl, sym, ap, ap₂, ◌∙◌}
 use mathlib.Core.List.{List, flatten}
 use mathlib.Core.Bool.{Bool}
 use Prim.Native.Nat.{ℕ, ◌+◌, ◌*◌, ◌≤◌, ◌<◌}
@@ -11,30 +11,35 @@ use Rattle.units.specs.declared.Head.{Head}
 use Rattle.units.specs.declared.Minute.{Minute}
 use Rattle.units.specs.declared.Request.{Request}
 use Rattle.units.specs.Limits.{most_bookings, most_events, most_hops, most_guard, place_size}
-use Rattle.units.specs.Lists.{count_from}
+use Rattle.units.specs.Lists.{count_from, sum, All}
+use Rattle.units.proofs.Parts.{all_map}
 use Rattle.timeline.specs.Insertion.{Room}
 use Rattle.path_search.specs.declared.Path.{Path}
 use Rattle.places.specs.Places.{slot}
 use Rattle.book.specs.declared.Booking.{Booking as Place}
-use Rattle.book.specs.Places.{figures, with_booking}
+use Rattle.book.specs.Places.{figures, with_booking, place_path}
 use Rattle.plain_book.specs.Bookings as plain-book
 use Rattle.rules.specs.Plain.{Plain, empty}
 use Rattle.rules.specs.Calls.{put_in}
-use Rattle.rules.specs.Tables.{Tables, tables, held, place, head_of, held_by, event_table, free_table, book_table, lent, Fine}
-use Rattle.rules.specs.Sound.{Obeys}
+use Rattle.rules.specs.Tables.{Tables, tables, held, place, head_of, held_by, event_table, free_table, book_table, totals_table, lent, Fine}
+use Rattle.rules.specs.Sound.{BookingRight, Obeys}
 use Rattle.rebuild.specs.Rebuilding.{release_of, PlaceRight, CanRebuild}
 use Rattle.changes.specs.Updating.{with_count, booked, Grantable}
 use Rattle.rules.proofs.Obeys.{held_count, right_in}
 use Rattle.rules.proofs.Tests.{Sized}
 use Rattle.rebuild.proofs.Added.{CanAdd, Adds, place_right, place_room, added}
-use Rattle.rebuild.proofs.RebuiltBook.{can_rebuild, events_anew, free_anew}
+use Rattle.rebuild.proofs.RebuiltBook.{can_rebuild, events_anew, free_anew, totals_anew}
 use Rattle.changes.proofs.InOrder.{slot_inside, book_entered}
-use Rattle.rules.proofs.Fine.{sizes, links_are, events_are, free_are}
+use Rattle.rules.proofs.Fine.{sizes, book_obeys, links_are, events_are, free_are, totals_are}
+use Rattle.totals.specs.Totals.{place_work, more_along, totals_of, AtMost, WorkRight}
+use Rattle.totals.proofs.Totals.{more_totals, totals_most}
+use Rattle.totals.proofs.Kept.{table_is, all_light, work_right}
 
--- four right tables
-tables_are : (links : List Link) (p : Plain) {head : Head} {es t book : List ℕ} → head ≡ head_of links p → es ≡ event_table p → t ≡ free_table links p → book ≡ book_table p → lent head es t book ≡ tables links p
+-- a right head and four right tables
+tables_are : (links : List Link) (p : Plain) {head : Head} {es t book totals : List ℕ} → head ≡ head_of links p → es ≡ event_table p → t ≡ free_table links p → book ≡ book_table p → totals ≡ totals_table links p
+    → lent head es t book totals ≡ tables links p
 unfolding tables
-tables_are links p a b c d = λ i. record { head = a i; events = b i; free = c i; book = d i }
+tables_are links p a b c d e = λ i. record { head = a i; events = b i; free = c i; book = d i; totals = e i }
 
 -- the head of a plain book, figure by figure
 pub head_is : (links : List Link) (p : Plain) {head : Head} → head.clock.0 ≡ p.clock → head.links ≡ length links → head.bookings ≡ length p.bookings → head.guard.0 ≡ p.guard → head ≡ head_of links p
@@ -53,12 +58,13 @@ module _ {links : List Link} {t : Tables} (right : Sized links t) {p : Plain} (o
   anew_asks = rw (is_head, is_book) (can_rebuild links p o right.links_right t.events t.free right.events_right right.free_right)
 
   -- and the tables that it gives
-  pub anew_tables : lent head (event_table (held_by head book)) (free_table links (held_by head book)) book ≡ tables links p
+  pub anew_tables : lent head (event_table (held_by head book)) (free_table links (held_by head book)) book (totals_table links (held_by head book)) ≡ tables links p
   anew_tables =
       tables_are links p is_head
       (ap₂ (λ h x. event_table (held_by h x)) is_head is_book ∙ events_anew links p o)
       (ap₂ (λ h x. free_table links (held_by h x)) is_head is_book ∙ free_anew links p o)
       is_book
+      (ap₂ (λ h x. totals_table links (held_by h x)) is_head is_book ∙ totals_anew links p o)
 
 -- ---- none
 
@@ -78,9 +84,10 @@ module _ {links : List Link} {t : Tables} (right : Sized links t) {book : List �
   }
 
   -- and the tables that it gives
-  pub bare_tables : (guard : ℕ) → let head = bare_head links guard in lent head (event_table (held_by head book)) (free_table links (held_by head book)) book ≡ tables links (empty guard)
+  pub bare_tables : (guard : ℕ) → let head = bare_head links guard in
+      lent head (event_table (held_by head book)) (free_table links (held_by head book)) book (totals_table links (held_by head book)) ≡ tables links (empty guard)
   unfolding count_from flatten plain-book.by_number
-  bare_tables guard = tables_are links (empty guard) refl refl refl is_book
+  bare_tables guard = tables_are links (empty guard) refl refl refl is_book refl
 
 -- ---- one booking more
 
@@ -113,14 +120,38 @@ module _ {links : List Link} {t : Tables} (fine : Fine links t) {number : ℕ} {
   pub granted_room : Room t.events t.free 2
   granted_room = rw (events_are fine, free_are fine) (place_room most_events links (held t) (granted_place number r start path) can_add)
 
+  -- what `add_work` asks
+  pub granted_work : WorkRight (granted_place number r start path)
+  granted_work = work_right links (put_in (booked number r start path) (held t)) (sizes fine).links_right.1 (granted_place number r start path) (omega (arith, ap (λ q. q.count) g.path_is, short)) g.booking_right
+
+  totals_were : t.totals ≡ totals_of (held t).bookings
+  totals_were = totals_are fine ∙ sym (table_is links (held t) (sizes fine).links_right.1 (book_obeys fine).bookings_right)
+
+  pub granted_few : AtMost most_bookings t.totals
+  granted_few l =
+      rw totals_were
+      (omega (arith, totals_most (held t).bookings (all_light links (held t) (held t).bookings (book_obeys fine).bookings_right) l, (book_obeys fine).not_too_many))
+
+  -- and what it gives
+  totals_entered : more_along (place_work (granted_place number r start path)) (place_path (granted_place number r start path)) t.totals ≡ totals_table links (put_in (booked number r start path) (held t))
+  totals_entered =
+      ap (more_along (place_work (granted_place number r start path)) (place_path (granted_place number r start path))) totals_were
+      ∙ more_totals (granted_place number r start path) granted_work (held t).bookings
+      ∙ table_is links (put_in (booked number r start path) (held t)) (sizes fine).links_right.1 all_right
+    where
+      all_right : All (BookingRight links (put_in (booked number r start path) (held t))) (put_in (booked number r start path) (held t)).bookings
+      all_right = (g.booking_right, all_map (BookingRight links (held t)) (BookingRight links (put_in (booked number r start path) (held t))) (λ b q. right_in links (held t) (put_in (booked number r start path) (held t)) b q.still_stands q) (held t).bookings (book_obeys fine).bookings_right)
+
   -- and the tables with what they give
-  pub entered_tables : {es' t' book' : List ℕ} {answer : Bool} → Adds (release_of t.head (granted_place number r start path)) (granted_place number r start path) t.events t.free es' t' answer
+  pub entered_tables : {es' t' book' totals' : List ℕ} {answer : Bool} → Adds (release_of t.head (granted_place number r start path)) (granted_place number r start path) t.events t.free es' t' answer
       → book' ≡ with_booking (slot place_size number t.book t.head.bookings) (granted_place number r start path) t.book
-      → lent (with_count t.head (t.head.bookings + 1)) es' t' book' ≡ tables links (put_in (booked number r start path) (held t))
-  entered_tables {es'} {t'} {book'} {answer} a b =
+      → totals' ≡ more_along (place_work (granted_place number r start path)) (place_path (granted_place number r start path)) t.totals
+      → lent (with_count t.head (t.head.bookings + 1)) es' t' book' totals' ≡ tables links (put_in (booked number r start path) (held t))
+  entered_tables {es'} {t'} {book'} {totals'} {answer} a b d =
       let more = added most_events links (held t) (granted_place number r start path) can_add es' t' answer (rw (events_are fine, free_are fine) at a) in
       tables_are links (put_in (booked number r start path) (held t)) one_more more.events_are more.free_are
       (b ∙ book_entered fine (booked number r start path) short g.room (granted_place number r start path) figures_are)
+      (d ∙ totals_entered)
     where
       one_more : with_count t.head (t.head.bookings + 1) ≡ head_of links (put_in (booked number r start path) (held t))
       one_more = head_is links (put_in (booked number r start path) (held t)) refl (links_are fine) (omega (arith, held_count t)) refl

@@ -9,7 +9,7 @@ use Rattle.units.specs.declared.Link.{Link}
 use Rattle.histories.specs.Kinds.{all_checks}
 use Rattle.histories.proofs.Checks.{Numbered, Verdict, lets, stops, verdict}
 use Rattle.histories.proofs.Demand1 as every_kind
-use Rattle.rules.specs.Calls.{Ask, book, offer, list, cancel, move_clock, show, Call, set_up_with, ask, Refusal, Answer, done, refused, refuse, Values, values, StartOr8, InForm}
+use Rattle.rules.specs.Calls.{Ask, book, offer, list, cancel, move_clock, show, sold, Call, set_up_with, ask, Refusal, Answer, done, refused, refuse, Values, values, StartOr8, InForm}
 use Rattle.rules.specs.Tables.{Tables, held}
 use Rattle.rules.specs.Desk.{bandwidth_desk, outcome}
 use Rattle.rules.proofs.Exits.{own_numbered}
@@ -32,6 +32,7 @@ form_8 (list n r) a f w e = lists≢refused (sym w.1 ∙ e)
 form_8 (cancel n) a f w e = done≢refused (sym w ∙ e)
 form_8 (move_clock m) a f w e = done≢refused (sym w ∙ e)
 form_8 (show l m) a f w e = shows≢refused (sym w.1 ∙ e)
+form_8 (sold l) a f w e = shows≢refused (sym w.1 ∙ e)
 
 pub not_otherwise : (desk : Desk) → Demand1 desk → NotOtherwise desk
 not_otherwise desk d links t (set_up_with s) f h e = done≢refused (sym (d.in_form links t (set_up_with s) h) ∙ e)

@@ -23,7 +23,7 @@ use Rattle.histories.specs.Kinds as kinds
 use Rattle.rules.specs.Desk.{answer, outcome}
 use Rattle.rules.specs.Choosing.{FreeIn, PathIn, Carries}
 use Rattle.rules.specs.Sound.{LinkRight}
-use Rattle.demands.specs.Examples.{start_at, session_links, Entry, Holds, request, only, fill, session, free_figure, free_figure_left, before_low, full_book, same_ends, guarded, last_figure, two_links, broken_off, Examples}
+use Rattle.demands.specs.Examples.{start_at, session_links, Entry, Holds, request, only, fill, session, free_figure, free_figure_left, before_low, full_book, same_ends, guarded, last_figure, two_links, broken_off, sums, dropped, Examples}
 use Rattle.rules.proofs.Checks.{passed_answer, passed_done}
 use Rattle.rules.proofs.Tests.{links_tell, RequestRight, request_right}
 use Rattle.rules.proofs.Choices.{best_right}
@@ -50,6 +50,14 @@ full_book_replies f a b = refl
 broken_off_replies : Replies broken_off
 unfolding every_kind.replies kinds.answer checked best breaks_off break_off select member sum earliest can_start reaches lowest fewest route first_from all_from any_below
 broken_off_replies f a b = refl
+
+sums_replies : Replies sums
+unfolding every_kind.replies kinds.answer checked best breaks_off break_off select member sum earliest can_start reaches lowest fewest route first_from all_from any_below
+sums_replies f a b = refl
+
+dropped_replies : Replies dropped
+unfolding every_kind.replies kinds.answer checked best breaks_off break_off select member sum earliest can_start reaches lowest fewest route first_from all_from any_below
+dropped_replies f a b = refl
 
 guarded_replies : Replies guarded
 unfolding every_kind.replies kinds.answer checked best breaks_off break_off select member sum earliest can_start reaches lowest fewest route first_from all_from any_below
@@ -169,7 +177,13 @@ examples = (
                 holds (last_figure 0) (lit≤ tt) (λ f a b. only_right 4 (lit≤ tt) (lit≤ tt)) (last_figure_replies 0),
                 (
                   holds (last_figure 15) (lit≤ tt) (λ f a b. only_right 4 (lit≤ tt) (lit≤ tt)) (last_figure_replies 15),
-                  (holds broken_off (lit≤ tt) (λ f a b. (links_tell two_links).0 refl) broken_off_replies, tt),
+                  (
+                    holds broken_off (lit≤ tt) (λ f a b. (links_tell two_links).0 refl) broken_off_replies,
+                    (
+                      holds sums (lit≤ tt) (λ f a b. session_right) sums_replies,
+                      (holds dropped (lit≤ tt) (λ f a b. session_right) dropped_replies, tt),
+                    ),
+                  ),
                 ),
               ),
             ),

@@ -17,8 +17,8 @@ use Rattle.free_table.proofs.Figures.{kept_figure}
 use Rattle.choice.specs.Choice.{Grant, Choice, granted, no_start, choose}
 use Rattle.histories.specs.Kinds as kinds
 use Rattle.histories.specs.Lawful.{Lawful}
-use Rattle.rules.specs.Plain.{Plain, graph, carries, low, free}
-use Rattle.rules.specs.Calls.{Ask, book, offer, list, cancel, move_clock, show, shows, refuse, own_checks, breaks_off, chosen, best, every, result, StartOr8, InForm}
+use Rattle.rules.specs.Plain.{Plain, sold_work, graph, carries, low, free}
+use Rattle.rules.specs.Calls.{Ask, book, offer, list, cancel, move_clock, show, sold, shows, refuse, own_checks, breaks_off, chosen, best, every, result, StartOr8, InForm}
 use Rattle.rules.specs.Tables.{Tables, tables, same}
 use Rattle.rules.specs.Sound.{Obeys}
 use Rattle.rules.specs.Desk.{bandwidth_desk, Agree, answer}
@@ -44,6 +44,7 @@ in_form links p (list n r) = (every links p r, refl)
 in_form links p (cancel n) = refl
 in_form links p (move_clock m) = refl
 in_form links p (show l m) = (free links p l m, refl)
+in_form links p (sold l) = (sold_work p l, refl)
 
 -- tables are a set: `same` decides whether they are equal
 tables_set : IsSet Tables

@@ -11,5 +11,6 @@ pub mod EventsSuffice
 pub mod Listing
 pub mod Cancelling
 pub mod Guarding
+pub mod Selling
 pub mod Shams
 pub mod Examples

@@ -1,19 +1,21 @@
 -- The buyer's five sham desks, each refuted by the demand that is to exclude it, one that lists starts wrongly, two that answer an
 -- offer wrongly after a cancellation, three that answer an accepted call in another call's form, one that takes every guard for none,
--- two that say a wrong minute beside 8 and one that says a minute beside another refusal.
+-- two that say a wrong minute beside 8, one that says a minute beside another refusal, two that keep a total which has gone, and two that
+-- tell a wrong one.
 -- All but the calls named they do properly.
 use mathlib.Core.Path.{◌≡◌, refl, sym, ap, subst}
 use mathlib.Core.Logic.{⊎_elim}
 use mathlib.Core.List.Memᴰ
-use mathlib.Core.List.{List, [], ◌∷◌, flatten}
+use mathlib.Core.List.{List, [], ◌∷◌, map, flatten}
 use mathlib.Core.Bool.{Bool, true, false, ◌&&◌}
-use Prim.Native.Nat.{ℕ, zero, suc, ◌+◌, ◌≤◌, ◌<◌}
+use Prim.Native.Nat.{ℕ, zero, suc, ◌+◌, ◌*◌, ◌≤◌, ◌<◌}
 use native.Mathlib.Omega.{arith}
 use lib.Dec.{lit<, lit≤, leb, eqb, ltb}
 use lib.ListN.{length}
+use Rattle.units.specs.declared.Link.{Link}
 use Rattle.units.specs.declared.Request.{Request}
 use Rattle.units.specs.Limits.{most_guard, list_size}
-use Rattle.units.specs.Lists.{member, sum, count_from, equal, rising, select}
+use Rattle.units.specs.Lists.{if_so, member, sum, count_from, equal, rising, select}
 use Rattle.units.specs.Search.{first_from, all_from, any_below}
 use Rattle.timeline.specs.Events.{insert_rising, later, passed, row_at}
 use Rattle.path_search.specs.Paths.{reaches, lowest, fewest, route, goes_on}
@@ -21,8 +23,8 @@ use Rattle.choice.specs.Earliest.{can_start, earliest}
 use Rattle.choice.specs.BreakOff.{break_off}
 use Rattle.listing.specs.Ranges.{Range, ranges_from, ranges}
 use Rattle.listing.specs.Right.{Apart}
-use Rattle.rules.specs.Plain.{Booking, empty, terms, capacity, low}
-use Rattle.rules.specs.Calls.{Ask, book, offer, list, cancel, move_clock, show, Call, set_up, set_up_with, ask, Answer, done, starts, lists, shows, refused, refuse, no_start_at, Values, values, checked, best, breaks_off, every, put_in, on_done, on_start}
+use Rattle.rules.specs.Plain.{Booking, empty, span, terms, capacity, low}
+use Rattle.rules.specs.Calls.{Ask, book, offer, list, cancel, move_clock, show, sold, Call, set_up, set_up_with, ask, Answer, done, starts, lists, shows, refused, refuse, no_start_at, Values, values, checked, best, breaks_off, every, put_in, on_done, on_start}
 use Rattle.plain_book.specs.Bookings as bookings
 use Rattle.rules.specs.Tables.{Tables, sized, tables, held, sound_with, sound}
 use Rattle.rules.specs.Choosing.{PathIn}
@@ -34,6 +36,7 @@ use Rattle.demands.specs.Demands.{Desk, Demand1, Demand2, Demand3, Passes}
 use Rattle.demands.specs.Listing.{EveryStart}
 use Rattle.demands.specs.Cancelling.{StartsBy, CancellingHarmless}
 use Rattle.demands.specs.Guarding.{KeepsApart}
+use Rattle.demands.specs.Selling.{SellsAsBooked}
 use Rattle.demands.specs.Examples.{start_at, session_links, request}
 use Rattle.rules.proofs.Checks.{starts≢refused}
 
@@ -51,6 +54,7 @@ by_kind (list n r) b o c s x = x
 by_kind (cancel n) b o c s x = c
 by_kind (move_clock m) b o c s x = x
 by_kind (show l m) b o c s x = s
+by_kind (sold l) b o c s x = x
 
 -- what a sham makes of the proper outcome of a call, and of the tables that it is lent
 abbrev Sham : Type 0
@@ -100,7 +104,7 @@ splits proper t a = says (split_listing proper.answer) proper.tables
 -- 7. answers an offer that comes right after a cancellation as f makes of the proper answer. Of the cancellation it makes a note in
 -- the head, one link more than there are, and rubs it out before it looks at the tables again
 abbrev with_count : ℕ → Tables → Tables
-with_count n t = record { head = record { clock = t.head.clock; links = n; bookings = t.head.bookings; guard = t.head.guard }; events = t.events; free = t.free; book = t.book }
+with_count n t = record { head = record { clock = t.head.clock; links = n; bookings = t.head.bookings; guard = t.head.guard }; events = t.events; free = t.free; book = t.book; totals = t.totals }
 
 abbrev noted : Outcome → Outcome
 noted o = on_done o.answer (says done (with_count (suc o.tables.head.links) o.tables)) o
@@ -298,6 +302,7 @@ minute_said f links t (ask (list n r)) = outcome links t (ask (list n r))
 minute_said f links t (ask (cancel n)) = outcome links t (ask (cancel n))
 minute_said f links t (ask (move_clock m)) = outcome links t (ask (move_clock m))
 minute_said f links t (ask (show l m)) = outcome links t (ask (show l m))
+minute_said f links t (ask (sold l)) = outcome links t (ask (sold l))
 
 -- low always
 abbrev low_always : ℕ → ℕ → ℕ
@@ -371,4 +376,84 @@ pub not_minute_beside : ¬ Demand1 (desk_of minute_beside)
 unfolding kinds.outcome kinds.answer_on kinds.answer checked sound sound_with tables later flatten count_from bookings.by_number rising equal sum all_from
 not_minute_beside d =
     let one : ◌≡◌ {A = ℕ} 1 0 = ap (λ (v : Values). v.at) (ap values (d.stopped session_links fresh (ask (offer same_nodes)) 4 stopped_4)) in
+    omega arith
+
+-- 14. keeps the totals as they were in a cancellation, or in a clock move
+abbrev with_totals : List ℕ → Tables → Tables
+with_totals totals t = record { head = t.head; events = t.events; free = t.free; book = t.book; totals = totals }
+
+abbrev forgets : Sham
+forgets proper t a = by_kind a proper proper (says proper.answer (with_totals t.totals proper.tables)) proper proper
+
+abbrev keeps_ended : Desk
+keeps_ended links t (ask (move_clock m)) = says (outcome links t (ask (move_clock m))).answer (with_totals t.totals (outcome links t (ask (move_clock m))).tables)
+keeps_ended links t (set_up_with s) = outcome links t (set_up_with s)
+keeps_ended links t (ask (book n r)) = outcome links t (ask (book n r))
+keeps_ended links t (ask (offer r)) = outcome links t (ask (offer r))
+keeps_ended links t (ask (list n r)) = outcome links t (ask (list n r))
+keeps_ended links t (ask (cancel n)) = outcome links t (ask (cancel n))
+keeps_ended links t (ask (show l m)) = outcome links t (ask (show l m))
+keeps_ended links t (ask (sold l)) = outcome links t (ask (sold l))
+
+-- the first order sells 40 of link 2, and is cancelled
+pub not_forgets : ¬ SellsAsBooked (desk_of forgets)
+unfolding now plain left counted kinds.outcome kinds.answer_on kinds.answer checked best member sum earliest can_start route fewest lowest reaches first_from all_from any_below row_at passed sound sound_with tables later insert_rising flatten count_from bookings.by_number bookings.insert_by_number goes_on rising equal select
+not_forgets d =
+    let forty : ◌≡◌ {A = ℕ} 40 0 = d.kept session_links (after forgets (ask (book 7 first) ∷ ask (cancel 7) ∷ [])) 2 (lit< tt) in
+    omega arith
+
+-- or has ended
+abbrev ended : Moment bandwidth_desk keeps_ended session_links
+ended = record { before = fresh; start = 0; accepted = set_up_done; calls = ask (book 7 first) ∷ ask (move_clock 10) ∷ [] }
+
+pub not_keeps_ended : ¬ SellsAsBooked keeps_ended
+unfolding now plain left counted kinds.outcome kinds.answer_on kinds.answer checked best member sum earliest can_start route fewest lowest reaches first_from all_from any_below row_at passed sound sound_with tables later insert_rising flatten count_from bookings.by_number bookings.insert_by_number goes_on rising equal select
+not_keeps_ended d =
+    let forty : ◌≡◌ {A = ℕ} 40 0 = d.kept session_links ended 2 (lit< tt) in
+    omega arith
+
+-- 15. tells of a link what f says
+abbrev tells : (List Link → Tables → ℕ → Answer) → Desk
+tells f links t (ask (sold l)) = says (f links t l) t
+tells f links t (set_up_with s) = outcome links t (set_up_with s)
+tells f links t (ask (book n r)) = outcome links t (ask (book n r))
+tells f links t (ask (offer r)) = outcome links t (ask (offer r))
+tells f links t (ask (list n r)) = outcome links t (ask (list n r))
+tells f links t (ask (cancel n)) = outcome links t (ask (cancel n))
+tells f links t (ask (move_clock m)) = outcome links t (ask (move_clock m))
+tells f links t (ask (show l m)) = outcome links t (ask (show l m))
+
+-- the guard counted
+abbrev with_guard : List Link → Tables → ℕ → Answer
+with_guard links t l = shows (sum (map (λ b. if_so (member l b.grant.path) (b.terms.bandwidth * span (held t) b.terms)) (held t).bookings))
+
+-- the total of the link behind
+abbrev link_behind : List Link → Tables → ℕ → Answer
+link_behind links t l = (outcome links t (ask (sold (suc l)))).answer
+
+figure_said : {x y : ℕ} → shows x ≡ shows y → x ≡ y
+figure_said e = ap (λ (v : Values). v.figure) (ap values e)
+
+set_up_under_2 : (outcome session_links fresh (set_up 2)).answer ≡ done
+unfolding kinds.outcome kinds.answer_on checked tables later flatten count_from bookings.by_number
+set_up_under_2 = refl
+
+-- after the first order, under a guard of 2
+abbrev sold_under_2 : Moment bandwidth_desk (tells with_guard) session_links
+sold_under_2 = record { before = fresh; start = 2; accepted = set_up_under_2; calls = ask (book 7 first) ∷ [] }
+
+pub not_with_guard : ¬ SellsAsBooked (tells with_guard)
+unfolding now plain left counted kinds.outcome kinds.answer_on kinds.answer checked best member sum earliest can_start route fewest lowest reaches first_from all_from any_below row_at passed sound sound_with tables later insert_rising flatten count_from bookings.by_number bookings.insert_by_number goes_on rising equal
+not_with_guard d =
+    let more : ◌≡◌ {A = ℕ} 48 40 = figure_said (d.answered session_links sold_under_2 2 (lit< tt)) in
+    omega arith
+
+-- and under none
+abbrev sold_under_0 : Moment bandwidth_desk (tells link_behind) session_links
+sold_under_0 = record { before = fresh; start = 0; accepted = set_up_done; calls = ask (book 7 first) ∷ [] }
+
+pub not_link_behind : ¬ SellsAsBooked (tells link_behind)
+unfolding now plain left counted kinds.outcome kinds.answer_on kinds.answer checked best member sum earliest can_start route fewest lowest reaches first_from all_from any_below row_at passed sound sound_with tables later insert_rising flatten count_from bookings.by_number bookings.insert_by_number goes_on rising equal
+not_link_behind d =
+    let forty : ◌≡◌ {A = ℕ} 40 0 = figure_said (d.answered session_links sold_under_0 1 (lit< tt)) in
     omega arith

@@ -12,8 +12,8 @@ use Rattle.rules.specs.Tables.{Tables, lent_checks, Fine}
 use Rattle.rules.specs.Desk.{outcome}
 use Rattle.rules.proofs.Exits.{refused_with}
 use Rattle.refusals.proofs.TableChecks.{fine, list_fine, tables_refused}
-use Rattle.sound_calls.specs.Lent.{choice_shown, shown, listed, choice_answer, shown_answer, listed_answer, list_after, refusal_answer, tables_after}
-use Rattle.sound_calls.proofs.Handed.{handed_number, handed_grant, handed_shown, handed_listing, handed_tables}
+use Rattle.sound_calls.specs.Lent.{choice_shown, shown, sold_shown, listed, choice_answer, shown_answer, sold_answer, listed_answer, list_after, refusal_answer, tables_after}
+use Rattle.sound_calls.proofs.Handed.{handed_number, handed_grant, handed_shown, handed_sold, handed_listing, handed_tables}
 
 -- the number of the tables' checks
 abbrev pub by_tables : Ask → List Link → Tables → ℕ
@@ -41,6 +41,9 @@ module _ (a : Ask) {l links : List Link} {s t : Tables} (same_links : l ≡ link
 
     pub refused_shown : shown (refuse (number r)) ≡ shown_answer links t (ask a)
     refused_shown = handed_shown links t (ask a) _ refused_outcome
+
+    pub refused_sold : sold_shown (refuse (number r)) ≡ sold_answer links t (ask a)
+    refused_sold = handed_sold links t (ask a) _ refused_outcome
 
     pub refused_listing : (old : List ℕ) → (listed (refuse (number r)) ≡ listed_answer links t (ask a)) × (old ≡ list_after links t (ask a) old)
     refused_listing old = handed_listing links t (ask a) _ refused_outcome old refl refl

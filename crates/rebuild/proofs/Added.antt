@@ -16,7 +16,7 @@ use Rattle.units.specs.Lists.{if_so, member, padded, all, All, Distinct}
 use Rattle.units.specs.Search.{all_from}
 use Rattle.units.proofs.Tests.{Tells, ◌&◌, at_most, member_tells, absent_test, Side, below, above, side}
 use Rattle.units.proofs.Search.{all_from_all, all_allFrom}
-use Rattle.units.proofs.Parts.{all_map, all_at}
+use Rattle.units.proofs.Parts.{all_map, all_at, all_get}
 use Rattle.units.proofs.Padded.{rows, length_rows}
 use Rattle.timeline.specs.Events.{events}
 use Rattle.timeline.specs.Insertion.{with_span, with_span_rows, Room}
@@ -38,7 +38,6 @@ use Rattle.rules.specs.Tables.{events_of, booking_of}
 use Rattle.rules.specs.Sound.{BookingRight}
 use Rattle.book.specs.Places.{place_path}
 use Rattle.rebuild.specs.Rebuilding.{less_path, enough_path, PlaceRight, events_in, free_in}
-use Rattle.rebuild.proofs.Along.{link_below}
 use Rattle.rules.specs.Desk.{NotOversold}
 use Rattle.rules.proofs.Uses.{all_times, uses_most, uses_within, taken_put_in, free_put_in, taken_past, free_changes}
 
@@ -234,7 +233,7 @@ module _ (n : ℕ) (links : List Link) (p : Plain) (b : Place) (can : CanAdd n l
     start_right = can.right.start_right;
     duration_right = can.right.duration_right;
     count_right = can.count_right;
-    links_right = λ i h. omega (arith, can.few_links, link_below (length links) (place_path b) i (path_inside (graph links) (place_path b) can.right.path_right) h);
+    links_right = λ i h. omega (arith, can.few_links, all_get (λ l. l < length links) (place_path b) i (path_inside (graph links) (place_path b) can.right.path_right) h);
   }
 
   pub place_room : Room (events_in n p) (free_in n links p) 2

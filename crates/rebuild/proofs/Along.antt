@@ -1,4 +1,4 @@
--- Along a path: a link of it is one that there may be, and what a loop that takes from each has done, one link further.
+-- Along a path: what a loop that takes from each link has done, one link further.
 use mathlib.Core.Path.{◌≡◌}
 use mathlib.Core.List.{List, [], ◌∷◌}
 use Prim.Native.Nat.{ℕ, zero, suc, ◌+◌, ◌≤◌, ◌<◌}
@@ -9,12 +9,6 @@ use lib.Seq.{drop-cons}
 use Rattle.units.specs.Lists.{All}
 use Rattle.free_table.specs.Taking.{less_span}
 use Rattle.rebuild.specs.Rebuilding.{less_path}
-
--- the link at place i of a path of links below n
-pub link_below : (n : ℕ) (path : List ℕ) (i : ℕ) → All (λ l. l < n) path → i < length path → get_or path i 0 < n
-link_below n [] i below h = absurd (omega arith)
-link_below n (l ∷ ls) zero below h = below.0
-link_below n (l ∷ ls) (suc i) below h = link_below n ls i below.1 (omega arith)
 
 -- taking from place i of the path on
 module _ (es : List ℕ) (start end bandwidth : ℕ) (path : List ℕ) (i : ℕ) (t : List ℕ) where

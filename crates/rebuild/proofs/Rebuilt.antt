@@ -9,7 +9,8 @@ use Rattle.units.specs.declared.Link.{Link}
 use Rattle.units.specs.declared.Head.{Head}
 use Rattle.units.specs.Limits.{most_links}
 use Rattle.units.specs.Lists.{sum, count_from, All}
-use Rattle.units.proofs.Tests.{Tells, ◌&◌, Side, below, above, side}
+use Rattle.units.proofs.Tests.{Tells, ◌&◌}
+use Rattle.units.proofs.Parts.{counted_one, counted_all}
 use Rattle.units.proofs.Padded.{length_count}
 use Rattle.timeline.specs.EventTable.{only_clock}
 use Rattle.timeline.specs.Insertion.{Room}
@@ -49,23 +50,6 @@ module _ (n : ℕ) (links : List Link) (p : Plain) (b : Place) (can : CanAdd n l
       let both = r.answer_is & a.answer_is in
       let more = oversold_added links p (booking_of b) can.right stand in
       record { events_are = a.events_are; free_are = a.free_are; answer_is = ((λ e. more.1 (both.0 e)), λ q. both.1 (more.0 q)) }
-
--- ---- a booking for each number of a range
-
-module _ {A : Type 0} (f : ℕ → A) (P : A → Type 0) where
-  pub counted_one : (i n : ℕ) → All P (map f (count_from i n)) → (j : ℕ) → i ≤ j → j < i + n → P (f j)
-  unfolding count_from
-  counted_one i zero a j h k = absurd (omega arith)
-  counted_one i (suc n) a j h k = by (side i j) (λ l. counted_one (suc i) n a.1 j (omega arith) (omega arith))
-    where
-      by : Side i j → (i < j → P (f j)) → P (f j)
-      by (below l) further = further l
-      by (above l) further = let e : i ≡ j = omega arith in subst (λ m. P (f m)) e a.0
-
-  counted_all : (i n : ℕ) → ((j : ℕ) → i ≤ j → j < i + n → P (f j)) → All P (map f (count_from i n))
-  unfolding count_from
-  counted_all i zero h = tt
-  counted_all i (suc n) h = (h i (omega arith) (omega arith), counted_all (suc i) n (λ j a b. h j (omega arith) (omega arith)))
 
 -- ---- the places from i on
 

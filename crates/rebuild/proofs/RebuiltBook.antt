@@ -7,16 +7,16 @@ use lib.ListN.{length}
 use Rattle.units.specs.Limits.{most_links, most_hops, most_events}
 use Rattle.units.specs.Lists.{Within, All}
 use Rattle.units.proofs.Permuted.{length_permuted}
+use Rattle.units.proofs.Parts.{counted_one}
 use Rattle.book.specs.Places.{booking_in}
 use Rattle.units.specs.declared.Link.{Link}
 use Rattle.rules.specs.Plain.{Booking, Plain}
-use Rattle.rules.specs.Tables.{tables, by_number, head_of, held_by, event_table, free_table, book_table}
+use Rattle.rules.specs.Tables.{tables, by_number, head_of, held_by, event_table, free_table, book_table, totals_table}
 use Rattle.rules.specs.Sound.{BookingRight, Obeys}
 use Rattle.rebuild.specs.Rebuilding.{CanRebuild}
 use Rattle.rules.proofs.Book.{by_number_is, Short, places_read, counts_short}
 use Rattle.rules.proofs.Tests.{sized_tells}
 use Rattle.rules.proofs.Obeys.{all_short, Ordered, held_ordered, obeys_ordered, tables_ordered, tables_sized}
-use Rattle.rebuild.proofs.Rebuilt.{counted_one}
 
 module _ (links : List Link) (p : Plain) (o : Obeys links p) where
   -- the book by rising number, as its table holds it
@@ -60,3 +60,7 @@ module _ (links : List Link) (p : Plain) (o : Obeys links p) where
   pub free_anew : free_table links (held_by (head_of links p) (book_table p)) ≡ free_table links p
   unfolding tables
   free_anew = ap (free_table links) held_is ∙ sym (ap (λ t. t.free) (tables_ordered links p o))
+
+  pub totals_anew : totals_table links (held_by (head_of links p) (book_table p)) ≡ totals_table links p
+  unfolding tables
+  totals_anew = ap (totals_table links) held_is ∙ sym (ap (λ t. t.totals) (tables_ordered links p o))

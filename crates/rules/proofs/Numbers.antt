@@ -8,7 +8,7 @@ numbers_tell done = refl
 numbers_tell (starts g) = (refl, refl, refl, refl, refl)
 numbers_tell (lists rs) = (refl, refl)
 numbers_tell (shows x) = (refl, refl)
-numbers_tell (refused r) = (refl, refl)
+numbers_tell (refused r) = (refl, refl, refl, refl, refl, refl, refl)
 
 -- no minute stands beside a refusal by a check
 pub checks_bring_none : ChecksBringNone

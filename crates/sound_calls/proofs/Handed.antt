@@ -7,7 +7,7 @@ use Rattle.sound_calls.specs.declared.Listed.{Listed}
 use Rattle.rules.specs.Calls.{Call, values}
 use Rattle.rules.specs.Tables.{Tables}
 use Rattle.rules.specs.Desk.{Outcome, outcome}
-use Rattle.sound_calls.specs.Lent.{choice_shown, listed, list_left, shown, choice_answer, listed_answer, list_after, shown_answer, refusal_answer, tables_after}
+use Rattle.sound_calls.specs.Lent.{choice_shown, listed, list_left, shown, sold_shown, choice_answer, listed_answer, list_after, shown_answer, sold_answer, refusal_answer, tables_after}
 
 module _ (links : List Link) (t : Tables) (c : Call) (o : Outcome) (e : outcome links t c ≡ o) where
   -- the tables that are handed back
@@ -26,6 +26,10 @@ module _ (links : List Link) (t : Tables) (c : Call) (o : Outcome) (e : outcome 
   pub handed_shown : shown o.answer ≡ shown_answer links t c
   unfolding shown_answer
   handed_shown = sym (ap (λ x. shown x.answer) e)
+
+  pub handed_sold : sold_shown o.answer ≡ sold_answer links t c
+  unfolding sold_answer
+  handed_sold = sym (ap (λ x. sold_shown x.answer) e)
 
   -- a listing, with the list as it was lent and as it is left
   pub handed_listing : (old : List ℕ) {a : Listed} {new : List ℕ} → a ≡ listed o.answer → new ≡ list_left o.answer old → (a ≡ listed_answer links t c) × (new ≡ list_after links t c old)

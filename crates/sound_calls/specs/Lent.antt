@@ -42,6 +42,12 @@ shown a = record { refusal = (values a).number; free = record { 0 = (values a).f
 abbrev pub sold_shown : Answer → Sold
 sold_shown a = record { refusal = (values a).number; work = record { 0 = (values a).figure } }
 
+-- the record of a total tells the answer too, and the total is zero beside a refusal
+abbrev pub SoldTells : Type 0
+SoldTells =
+    (a : Answer) → let r = sold_shown a in
+    Told a (record { number = r.refusal; start = (values a).start; count = (values a).count; path = (values a).path; ranges = (values a).ranges; figure = r.work.0; at = (values a).at })
+
 -- a listing that is answered, a showing, and a total, as they are handed out
 abbrev pub listed_values : Result ℕ Refusal → Listed
 listed_values (Ok count) = record { refusal = 0; count = count }

@@ -9,7 +9,7 @@ use Rattle.units.specs.Limits.{most_bookings, last_minute, most_guard}
 use Rattle.units.proofs.Parts.{all_of}
 use Rattle.units.proofs.Search.{not_true}
 use Rattle.rules.specs.Plain.{taken, capacity}
-use Rattle.rules.specs.Tables.{Tables, tables, held, events_of, links_ok, sound}
+use Rattle.rules.specs.Tables.{Tables, tables, held, events_of, totals_table, links_ok, sound}
 use Rattle.soundness.specs.Checking.{book_ok, FiguresRight}
 use Rattle.rules.proofs.Tests.{links_tell}
 use Rattle.rules.proofs.Obeys.{sound_facts, sound_test, sound_obeys, held_count}
@@ -22,6 +22,7 @@ pub record Checked (links : List Link) (t : Tables) : Type 0 where
   pub links_counted : t.head.links ≡ length links
   pub few_bookings : t.head.bookings ≤ most_bookings
   pub book_right : book_ok links t.book (held t) ≡ true
+  pub totals_right : t.totals ≡ totals_table links (held t)
   pub figures_right : FiguresRight links (held t) t.events t.free
 
 module _ (links : List Link) (t : Tables) where
@@ -47,6 +48,7 @@ module _ (links : List Link) (t : Tables) where
         events = c.figures_right.events_are i;
         free = c.figures_right.free_are i;
         book = book.1 i;
+        totals = c.totals_right i;
       }
 
   pub sound_checked : sound links t ≡ true → Checked links t
@@ -60,6 +62,7 @@ module _ (links : List Link) (t : Tables) where
         links_counted = ap (λ x. x.head.links) s.tables_are;
         few_bookings = s.count_right;
         book_right = (book_tells links t.book (held t)).1 ((s.in_order, s.bookings_right), ap (λ x. x.book) s.tables_are);
+        totals_right = ap (λ x. x.totals) s.tables_are;
         figures_right = record {
           not_oversold = (sound_obeys links t e).not_oversold;
           events_are = ap (λ x. x.events) s.tables_are;

@@ -6,7 +6,7 @@ use Rattle.units.specs.Lists.{equal, rising, all}
 use Rattle.book.specs.declared.Booking.{Booking as Place}
 use Rattle.rules.specs.Plain.{Plain}
 use Rattle.rules.specs.Calls.{numbers}
-use Rattle.rules.specs.Tables.{booking_ok, book_table, event_table, free_table, totals_table}
+use Rattle.rules.specs.Tables.{booking_ok, book_table, event_table, free_table}
 use Rattle.rules.specs.Desk.{NotOversold}
 
 -- every figure is zero
@@ -21,12 +21,11 @@ tidy b = leb b.count most_hops && all_zero (drop b.count b.links)
 unfoldable pub book_ok : List Link → List ℕ → Plain → Bool
 book_ok links book p = rising 0 (numbers p.bookings) && all (booking_ok links p) p.bookings && equal book (book_table p)
 
--- no link is oversold, and events, free figures and totals are the ones that links, clock, guard and book give
-pub record FiguresRight (links : List Link) (p : Plain) (events free totals : List ℕ) : Type 0 where
+-- no link is oversold, and events and free figures are the ones that links, clock, guard and book give
+pub record FiguresRight (links : List Link) (p : Plain) (events free : List ℕ) : Type 0 where
   pub not_oversold : NotOversold links p
   pub events_are : events ≡ event_table p
   pub free_are : free ≡ free_table links p
-  pub totals_are : totals ≡ totals_table links p
 
 -- a book of document 01's size, of which n places are used
 pub record BookFits (book : List ℕ) (n : ℕ) : Type 0 where

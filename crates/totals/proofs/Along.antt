@@ -2,16 +2,18 @@
 use mathlib.Core.Path.{◌≡◌, refl, ◌∙◌, ap}
 use mathlib.Core.List.{List, [], ◌∷◌}
 use mathlib.Core.Bool.{Bool, true, false, ◌||◌, true≢false}
-use Prim.Native.Nat.{ℕ, zero, suc, ◌+◌, ◌≤◌, ◌<◌}
+use Prim.Native.Nat.{ℕ, zero, suc, ◌+◌, ◌*◌, ◌≤◌, ◌<◌}
 use native.Mathlib.Numerals.{add-one}
 use native.Mathlib.Omega.{arith}
 use lib.Dec.{eqb}
 use lib.ListN.{length, get_or, set, drop, drop_of_length-le, length-set}
 use lib.Seq.{drop-cons, get_or-set_same, get_or-set_other}
 use borrow.Author.Tests.{eq-eqb, ne_eqb, eqb-true}
+use Rattle.units.specs.Limits.{most_totals, most_bookings}
 use Rattle.units.specs.Lists.{if_so, member, All, Distinct}
+use Rattle.units.specs.Work.{most_work}
 use Rattle.units.proofs.Tests.{Order, less, same, more, order, absent_test}
-use Rattle.totals.specs.Totals.{more_along}
+use Rattle.totals.specs.Totals.{more_along, AtMost}
 
 -- adding from place i of the path on
 module _ (x : ℕ) (path : List ℕ) (i : ℕ) (t : List ℕ) where
@@ -57,3 +59,22 @@ more_at x (l ∷ ls) t d a j =
   where
     absent_next : eqb j l ≡ true → member j ls ≡ false
     absent_next e = rw (eqb-true j l e) (absent_test l ls d.0)
+
+-- ---- the loop, at place i of the path
+
+pub record Adding (x : ℕ) (path before : List ℕ) (i : ℕ) (t : List ℕ) : Type 0 where
+  pub rest : more_along x path before ≡ more_along x (drop i path) t
+  pub sized : length t ≡ most_totals
+  pub few : AtMost (most_bookings + i) t
+
+pub if_so_most : (u : Bool) (x : ℕ) → if_so u x ≤ x
+if_so_most true x = omega arith
+if_so_most false x = omega arith
+
+module _ {x : ℕ} {path before : List ℕ} {i : ℕ} {t : List ℕ} (a : Adding x path before i t) (light : x ≤ most_work) (inside : i < length path) (there : get_or path i 0 < most_totals) where
+  pub added_one : Adding x path before (i + 1) (set t (get_or path i 0) (get_or t (get_or path i 0) 0 + x))
+  added_one = record {
+    rest = a.rest ∙ more_next x path i t inside;
+    sized = length-set t (get_or path i 0) (get_or t (get_or path i 0) 0 + x) ∙ a.sized;
+    few = λ j. omega (arith, set_total x t (get_or path i 0) j (omega (arith, a.sized)), if_so_most (eqb j (get_or path i 0)) x, a.few j);
+  }

@@ -12,7 +12,7 @@ use book::{Booking, booking_at};
 use units::{Head, TOTALS, work_of};
 
 // Adds a booking's work to the total of each link of its path.
-#[tactic(auto, using(crate::proofs::Along::more_next, crate::proofs::Along::more_done))]
+#[tactic(auto, using(crate::proofs::Along::more_done))]
 pub fn add_work(totals: &mut [u64], booking: Booking)
     requires right { WorkRight booking }
     requires sized { length totals.old ≡ most_totals }

@@ -37,8 +37,8 @@ drop_ended-requires c = omega (arith, few_bookings c.requires.fine, (sizes c.req
 pub overflow_cast-head : goal.overflow_cast-head
 overflow_cast-head c = let at = goal.at.overflow_cast-head c in omega (arith, count_is at.After-drop_ended, (obeyed at.Start).not_too_many)
 
-pub rebuild_desk-requires : goal.rebuild_desk-requires
-rebuild_desk-requires c = let at = goal.at.rebuild_desk-requires c in anew_asks (sizes c.requires.fine) (obeyed at.Start) (head_after at.After-drop_ended) (book_is at.After-drop_ended)
+pub rebuild_desk-requires-clause-can : goal.rebuild_desk-requires-clause-can
+rebuild_desk-requires-clause-can c = let at = goal.at.rebuild_desk-requires-clause-can c in anew_asks (sizes c.requires.fine) (obeyed at.Start) (head_after at.After-drop_ended) (book_is at.After-drop_ended)
 
 pub returns-clause-tables : goal.returns-clause-tables
 returns-clause-tables c =

@@ -13,8 +13,8 @@ right s = let d = s.args.desk.now in (sized_tells d.links.now (tables_of d)).0 s
 is_book : (c : After-fill) → c.fill.new.self ≡ replicate (most_bookings * place_size) 0
 is_book c = let d = c.args.desk.now in c.fill.ensures.after (λ y same. same) ∙ ap (λ n. replicate n 0) ((sized_tells d.links.now (tables_of d)).0 c.requires.sized).book_right
 
-pub rebuild_desk-requires : goal.rebuild_desk-requires
-rebuild_desk-requires c = let at = goal.at.rebuild_desk-requires c in bare_asks (right at.Start) (is_book at.After-fill) c.args.guard.0 c.requires.short_guard
+pub rebuild_desk-requires-clause-can : goal.rebuild_desk-requires-clause-can
+rebuild_desk-requires-clause-can c = let at = goal.at.rebuild_desk-requires-clause-can c in bare_asks (right at.Start) (is_book at.After-fill) c.args.guard.0 c.requires.short_guard
 
 pub returns-clause-tables : goal.returns-clause-tables
 returns-clause-tables c = let at = goal.at.returns-clause-tables c in c.rebuild_desk.ensures.tables ∙ bare_tables (right at.Start) (is_book at.After-fill) c.args.guard.0

@@ -50,8 +50,8 @@ remove_place-requires c = omega (arith, (gone (goal.at.remove_place-requires c).
 pub overflow_sub-head : goal.overflow_sub-head
 overflow_sub-head c = omega (arith, (gone (goal.at.overflow_sub-head c).In-Some).inside)
 
-pub rebuild_desk-requires : goal.rebuild_desk-requires
-rebuild_desk-requires c = let at = goal.at.rebuild_desk-requires c in anew_asks (sizes c.requires.fine) (obeyed at.Start) (one_less at.In-Some) (book_is at.After-remove_place)
+pub rebuild_desk-requires-clause-can : goal.rebuild_desk-requires-clause-can
+rebuild_desk-requires-clause-can c = let at = goal.at.rebuild_desk-requires-clause-can c in anew_asks (sizes c.requires.fine) (obeyed at.Start) (one_less at.In-Some) (book_is at.After-remove_place)
 
 pub returns-clause-tables : goal.returns-clause-tables
 returns-clause-tables c =

@@ -1,0 +1,72 @@
+-- The totals of a plain book that obeys the rules: the table that its desk keeps is that of its bookings, and each of its places can be added.
+use mathlib.Core.Path.{◌≡◌, refl, sym, ap, ◌∙◌}
+use mathlib.Core.List.{List, [], ◌∷◌, map}
+use mathlib.Core.Bool.{false}
+use Prim.Native.Nat.{ℕ, zero, suc, ◌+◌, ◌-◌, ◌*◌, ◌≤◌, ◌<◌}
+use native.Mathlib.Decide.{dec_lt}
+use native.Mathlib.Nat.{mul-le-mul}
+use native.Mathlib.Omega.{arith}
+use lib.ListN.{length, get_or, length-map}
+use lib.Seq.{ext_get_or}
+use Rattle.units.specs.declared.Link.{Link}
+use Rattle.units.specs.declared.Head.{Head}
+use Rattle.units.specs.Limits.{most_links, most_totals, most_hops, most_bookings, place_size}
+use Rattle.units.specs.Lists.{member, sum, count_from, All}
+use Rattle.units.proofs.Tests.{absent_test}
+use Rattle.units.proofs.Parts.{all_map, all_at, counted_one}
+use Rattle.units.proofs.Padded.{length_count, length_padded, count_at, padded_past}
+use Rattle.path_search.proofs.Paths.{path_inside, path_distinct}
+use Rattle.book.specs.declared.Booking.{Booking as Place}
+use Rattle.book.specs.Places.{booking_in, place_path}
+use Rattle.rules.specs.Plain.{Booking, Plain, graph}
+use Rattle.rules.specs.Tables.{booking_of, booking_at, held_by, totals_table}
+use Rattle.rules.specs.Sound.{BookingRight}
+use Rattle.totals.specs.Totals.{totals_of, WorkRight, CanTotal}
+use Rattle.totals.proofs.Totals.{total, length_totals, total_at, Light}
+
+module _ (links : List Link) (p : Plain) (few : length links ≤ most_links) where
+  -- a right booking sells nothing of a link that isn't on the list
+  total_past : (bs : List Booking) → All (BookingRight links p) bs → (l : ℕ) → length links ≤ l → total bs l ≡ 0
+  unfolding sum
+  total_past [] a l h = refl
+  total_past (b ∷ bs) a l h =
+      let off : member l b.grant.path ≡ false = absent_test l b.grant.path (λ m. let inside = all_at (λ l. l < length links) (path_inside (graph links) b.grant.path a.0.path_right) m in omega arith) in
+      rw (off, total_past bs a.1 l h) refl
+
+  pub table_is : All (BookingRight links p) p.bookings → totals_of p.bookings ≡ totals_table links p
+  table_is a =
+      ext_get_or 0 (totals_of p.bookings) (totals_table links p) (length_totals p.bookings ∙ sym (length_padded 0 most_totals first (omega (arith, long))))
+      (λ l inside. total_at p.bookings l (omega (arith, length_totals p.bookings)) ∙ elim (dec_lt l (length links)) [
+        yes h ↦ sym (count_at 0 (total p.bookings) _ 0 (length links) l h ∙ (let z : 0 + l ≡ l = omega arith in ap (total p.bookings) z))
+        | no h ↦ total_past p.bookings a l (omega arith) ∙ sym (padded_past 0 most_totals first l (omega (arith, long)))
+      ])
+    where
+      first : List ℕ
+      first = map (total p.bookings) (count_from 0 (length links))
+
+      long : length first ≡ length links
+      long = length-map (count_from 0 (length links)) (total p.bookings) ∙ length_count 0 (length links)
+
+pub light : (links : List Link) (p : Plain) (b : Booking) → BookingRight links p b → Light b
+light links p b r = mul-le-mul r.bandwidth_right.1 r.duration_right.1
+
+pub all_light : (links : List Link) (p : Plain) (bs : List Booking) → All (BookingRight links p) bs → All Light bs
+all_light links p = all_map (BookingRight links p) Light (light links p)
+
+-- a place with a right booking
+pub work_right : (links : List Link) (p : Plain) → length links ≤ most_links → (b : Place) → b.count ≤ most_hops → BookingRight links p (booking_of b) → WorkRight b
+work_right links p few b count r = record {
+  work_right = light links p (booking_of b) r;
+  count_right = count;
+  links_right = all_map (λ l. l < length links) (λ l. l < most_totals) (λ l h. omega arith) (place_path b) (path_inside (graph links) (place_path b) r.path_right);
+  links_differ = path_distinct (graph links) (place_path b) r.path_right;
+}
+
+-- a book with right bookings
+pub can_total : (links : List Link) (head : Head) (book : List ℕ) → length links ≤ most_links → head.bookings ≤ most_bookings → length book ≡ most_bookings * place_size
+    → ((i : ℕ) → i < head.bookings → (booking_in book i).count ≤ most_hops) → All (BookingRight links (held_by head book)) (held_by head book).bookings → CanTotal head book
+can_total links head book few most sized counts a = record {
+  few_bookings = most;
+  book_sized = sized;
+  places_right = λ i h. work_right links (held_by head book) few (booking_in book i) (counts i h) (counted_one (booking_at book) (BookingRight links (held_by head book)) 0 head.bookings a i (omega arith) (omega arith));
+}

@@ -1,0 +1,101 @@
+-- The totals of a list of bookings: one booking more, the most that they can be, and the table that holds them.
+use mathlib.Core.Path.{◌≡◌, refl, sym, ap, ap₂, ◌∙◌}
+use mathlib.Core.List.{List, [], ◌∷◌, map, append-nil}
+use mathlib.Core.Bool.{Bool, true, false}
+use Prim.Native.Nat.{ℕ, zero, suc, ◌+◌, ◌-◌, ◌*◌, ◌≤◌, ◌<◌}
+use native.Mathlib.Decide.{dec_lt}
+use native.Mathlib.Omega.{arith}
+use lib.ListN.{length, get_or, replicate, length-map, get_or-eq_default}
+use lib.Seq.{ext_get_or}
+use Rattle.units.specs.declared.Link.{Link}
+use Rattle.units.specs.declared.Head.{Head}
+use Rattle.units.specs.Limits.{most_links, most_totals, most_bookings}
+use Rattle.units.specs.Lists.{if_so, member, sum, count_from, padded, All}
+use Rattle.units.specs.Work.{most_work}
+use Rattle.units.proofs.Tests.{absent_test}
+use Rattle.units.proofs.Padded.{length_count, length_padded, count_at, padded_past}
+use Rattle.book.specs.declared.Booking.{Booking as Place}
+use Rattle.book.specs.Places.{booking_in, place_path}
+use Rattle.rules.specs.Plain.{Booking, Plain, work, sold_work, graph}
+use Rattle.rules.specs.Tables.{booking_of, booking_at, held_by, totals_table}
+use Rattle.rules.specs.Sound.{BookingRight}
+use Rattle.totals.specs.Totals.{place_work, more_along, totals_of, AtMost, WorkRight, CanTotal}
+use Rattle.totals.proofs.Along.{length_more, more_at, if_so_most}
+
+-- the total of link l
+abbrev pub total : List Booking → ℕ → ℕ
+total bs l = sum (map (λ b. work b l) bs)
+
+pub length_totals : (bs : List Booking) → length (totals_of bs) ≡ most_totals
+length_totals bs = length-map (count_from 0 most_totals) (total bs) ∙ length_count 0 most_totals
+
+pub total_at : (bs : List Booking) (l : ℕ) → l < most_totals → get_or (totals_of bs) l 0 ≡ total bs l
+total_at bs l h =
+    ap (λ (t : List ℕ). get_or t l 0) (sym (append-nil (totals_of bs))) ∙ count_at 0 (total bs) [] 0 most_totals l h ∙ (let z : 0 + l ≡ l = omega arith in ap (total bs) z)
+
+-- ---- one booking more
+
+pub more_totals : (b : Place) → WorkRight b → (bs : List Booking) → more_along (place_work b) (place_path b) (totals_of bs) ≡ totals_of (booking_of b ∷ bs)
+unfolding sum
+more_totals b r bs =
+    ext_get_or 0 (more_along (place_work b) (place_path b) (totals_of bs)) (totals_of (booking_of b ∷ bs)) (length_more (place_work b) (place_path b) (totals_of bs) ∙ length_totals bs ∙ sym (length_totals (booking_of b ∷ bs)))
+    (λ l inside. let h : l < most_totals = omega (arith, length_more (place_work b) (place_path b) (totals_of bs), length_totals bs) in
+        more_at (place_work b) (place_path b) (totals_of bs) r.links_differ (rw length_totals r.links_right) l
+        ∙ rw (total_at bs l h, total_at (booking_of b ∷ bs) l h) (omega arith))
+
+-- ---- the most that they can be
+
+abbrev pub Light : Booking → Type 0
+Light b = b.terms.bandwidth * b.terms.duration ≤ most_work
+
+total_most : (bs : List Booking) → All Light bs → (l : ℕ) → total bs l ≤ length bs * most_work
+unfolding sum
+total_most [] a l = omega arith
+total_most (b ∷ bs) a l = omega (arith, if_so_most (member l b.grant.path) (b.terms.bandwidth * b.terms.duration), a.0, total_most bs a.1 l)
+
+pub totals_most : (bs : List Booking) → All Light bs → AtMost (length bs) (totals_of bs)
+totals_most bs a l = elim (dec_lt l most_totals) [ yes h ↦ rw (total_at bs l h) (total_most bs a l) | no h ↦ past (omega arith) ]
+  where
+    past : most_totals ≤ l → get_or (totals_of bs) l 0 ≤ length bs * most_work
+    past h = let none : get_or (totals_of bs) l 0 ≡ 0 = get_or-eq_default (totals_of bs) 0 (omega (arith, length_totals bs)) in omega arith
+
+-- ---- the places from i on
+
+abbrev pub bookings_from : Head → List ℕ → ℕ → List Booking
+bookings_from head book i = map (booking_at book) (count_from i (head.bookings - i))
+
+module _ {head : Head} {book : List ℕ} (can : CanTotal head book) where
+  length_from : (i : ℕ) → length (bookings_from head book i) ≡ head.bookings - i
+  length_from i = length-map (count_from i (head.bookings - i)) (booking_at book) ∙ length_count i (head.bookings - i)
+
+  light_from : (i n : ℕ) → i + n ≤ head.bookings → All Light (map (booking_at book) (count_from i n))
+  unfolding count_from
+  light_from i zero h = tt
+  light_from i (suc n) h = ((can.places_right i (omega arith)).work_right, light_from (suc i) n (omega arith))
+
+  -- no booking
+  pub none_from : totals_of (bookings_from head book head.bookings) ≡ replicate most_totals 0
+  unfolding count_from sum
+  none_from = let e : head.bookings - head.bookings ≡ 0 = omega arith in ap (λ k. totals_of (map (booking_at book) (count_from head.bookings k))) e
+
+  -- all of them
+  pub all_from : totals_of (bookings_from head book 0) ≡ totals_of (held_by head book).bookings
+  all_from = let e : head.bookings - 0 ≡ head.bookings = omega arith in ap (λ k. totals_of (map (booking_at book) (count_from 0 k))) e
+
+  module _ (place : ℕ) (inside : place ≤ head.bookings) where
+    pub few_from : AtMost most_bookings (totals_of (bookings_from head book place))
+    few_from l = omega (arith, totals_most (bookings_from head book place) (light_from place (head.bookings - place) (omega arith)) l, length_from place, can.few_bookings)
+
+    -- the booking of the place before
+    pub one_before : 0 < place → let b = booking_in book (place - 1) in
+        more_along (place_work b) (place_path b) (totals_of (bookings_from head book place)) ≡ totals_of (bookings_from head book (place - 1))
+    unfolding count_from
+    one_before some =
+        more_totals (booking_in book (place - 1)) (can.places_right (place - 1) (omega arith)) (bookings_from head book place)
+        ∙ ap totals_of (sym from)
+      where
+        from : bookings_from head book (place - 1) ≡ booking_at book (place - 1) ∷ bookings_from head book place
+        from =
+            let e : head.bookings - (place - 1) ≡ suc (head.bookings - place) = omega arith in
+            let f : suc (place - 1) ≡ place = omega arith in
+            ap (λ k. map (booking_at book) (count_from (place - 1) k)) e ∙ ap (λ k. booking_at book (place - 1) ∷ map (booking_at book) (count_from k (head.bookings - place))) f
