@@ -21,7 +21,7 @@ use Rattle.layout.specs.Records.{order_read}
 use Rattle.layout.specs.Values.{request_of}
 use Rattle.rules.specs.Plain.{Plain, low, graph, carries}
 use Rattle.histories.specs.Kinds as kinds
-use Rattle.rules.specs.Calls.{Ask, book, offer, list, cancel, move_clock, show, ask, Answer, refuse, values, Check, check, checked, own_checks, breaks_off, chosen, best, result}
+use Rattle.rules.specs.Calls.{Ask, book, offer, list, cancel, move_clock, show, sold, ask, Answer, refuse, values, Check, check, checked, own_checks, breaks_off, chosen, best, result}
 use Rattle.rules.specs.Tables.{Tables, held, table_checks}
 use Rattle.rules.specs.Desk.{answer, outcome}
 use Rattle.orders.specs.Ordered.{by_reading, answered, ordered}
@@ -66,6 +66,7 @@ result_short links p (list n r) = omega arith
 result_short links p (cancel n) = omega arith
 result_short links p (move_clock m) = omega arith
 result_short links p (show l m) = omega arith
+result_short links p (sold l) = omega arith
 
 outcome_short : (links : List Link) (t : Tables) (a : Ask) → Short (outcome links t (ask a)).answer
 unfolding kinds.outcome kinds.answer_on kinds.answer

@@ -2,7 +2,7 @@
 // not pass, if there is one. Nothing here writes a table.
 #![tactic(auto, unfolding(rules::specs::Calls::checked))]
 
-ghost use Rattle.std.specs.Prelude.{◌≡◌, [], true, ◌*◌, ◌≤◌, eqb, length};
+ghost use Rattle.std.specs.Prelude.{◌≡◌, [], true, ◌*◌, ◌≤◌, eqb, ltb, length};
 ghost use Rattle.units.specs.Limits.{place_size, list_size};
 ghost use Rattle.units.specs.Refusals.{number_of};
 ghost use Rattle.rules.specs.Calls.{Ask, set_up, first_refusal, own_checks};
@@ -14,7 +14,7 @@ use limits::{guard_ok, links_right, number_ok, request_ok, sized};
 use places::find;
 use soundness::sound;
 use units::{
-    BOOKINGS, Duration, Head, LIST_FIGURES, LinkNumber, MAX_MINUTE, MAX_SHOWN, Minute, PLACE,
+    BOOKINGS, Duration, Head, LIST_FIGURES, Link, LinkNumber, MAX_MINUTE, MAX_SHOWN, Minute, PLACE,
     Refusal, Request, low_minute,
 };
 
@@ -78,11 +78,18 @@ pub fn check_clock(head: Head, minute: Minute) -> Result<(), Refusal>
     Ok(())
 }
 
+// Whether a link is on the list.
+fn on_list(links: &[Link], link: LinkNumber) -> bool
+    ensures { result ≡ ltb link.0 (length links.now) }
+{
+    (link.0 as usize) < links.len()
+}
+
 // The first check of its own that a showing does not pass.
 pub fn check_show(tables: &LentTables<'_>, link: LinkNumber, minute: Minute) -> Result<(), Refusal>
     ensures { number_of result ≡ first_refusal (own_checks tables.now.links.now (held (tables_in tables.now)) (Ask.show link.0 minute.0)) }
 {
-    if tables.links.len() <= link.0 as usize {
+    if !on_list(tables.links, link) {
         return Err(Refusal::BadField);
     }
     if !(tables.head.clock.0..=MAX_SHOWN).contains(&minute.0) {
@@ -95,7 +102,7 @@ pub fn check_show(tables: &LentTables<'_>, link: LinkNumber, minute: Minute) -> 
 pub fn check_sold(tables: &LentTables<'_>, link: LinkNumber) -> Result<(), Refusal>
     ensures { number_of result ≡ first_refusal (own_checks tables.now.links.now (held (tables_in tables.now)) (Ask.sold link.0)) }
 {
-    if tables.links.len() <= link.0 as usize {
+    if !on_list(tables.links, link) {
         return Err(Refusal::BadField);
     }
     Ok(())

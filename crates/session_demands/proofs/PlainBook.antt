@@ -11,7 +11,7 @@ use Rattle.std.specs.Prelude.{Result, Ok, Err}
 use Rattle.std.proofs.lemmas.List.{length-map}
 use Rattle.units.specs.declared.Link.{Link}
 use Rattle.units.specs.declared.Refusal.{Refusal}
-use Rattle.units.specs.Limits.{most_links, most_events, most_bookings, most_guard, place_size}
+use Rattle.units.specs.Limits.{most_links, most_events, most_bookings, most_guard, place_size, most_totals}
 use Rattle.units.specs.Lists.{within, Within, All}
 use Rattle.units.specs.Refusals.{bad_size, bad_link, bad_field, bad_length}
 use Rattle.units.proofs.Tests.{in_range, at_most}
@@ -59,7 +59,13 @@ lines_plain links p place orders count o = lines_from links count p place orders
 blank_sized : (links : List Link) → Within 1 most_links (length links) → sized links blank ≡ true
 unfolding blank
 blank_sized links count =
-    (sized_tells links blank).1 (record { links_right = count; events_right = length-replicate {A = ℕ} most_events 0; free_right = length-replicate {A = ℕ} (most_events * most_links) 0; book_right = length-replicate {A = ℕ} (most_bookings * place_size) 0 })
+    (sized_tells links blank).1 (record {
+      links_right = count;
+      events_right = length-replicate {A = ℕ} most_events 0;
+      free_right = length-replicate {A = ℕ} (most_events * most_links) 0;
+      book_right = length-replicate {A = ℕ} (most_bookings * place_size) 0;
+      totals_right = length-replicate {A = ℕ} most_totals 0;
+    })
 
 -- 'then the set-up (2)', with the guard's range (4)
 set_up_number : (links : List Link) (guard : ℕ) → Within 1 most_links (length links) → (values (outcome links blank (set_up guard)).answer).number ≡ start_refusal links guard
