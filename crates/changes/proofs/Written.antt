@@ -11,7 +11,7 @@ use Rattle.units.specs.declared.Head.{Head}
 use Rattle.units.specs.declared.Minute.{Minute}
 use Rattle.units.specs.declared.Request.{Request}
 use Rattle.units.specs.Limits.{most_bookings, most_events, most_hops, most_guard, place_size}
-use Rattle.units.specs.Lists.{count_from, sum, All}
+use Rattle.units.specs.Lists.{count_from, All}
 use Rattle.units.proofs.Parts.{all_map}
 use Rattle.timeline.specs.Insertion.{Room}
 use Rattle.path_search.specs.declared.Path.{Path}

@@ -14,11 +14,10 @@ use Rattle.units.proofs.Padded.{length_count, length_padded, count_at, padded_pa
 use Rattle.histories.specs.Kinds as kinds
 use Rattle.histories.specs.Histories.{counted}
 use Rattle.histories.specs.Demands as demands
-use Rattle.histories.proofs.Demand3.{followed}
-use Rattle.rules.specs.Plain.{Plain, empty, sold_work}
+use Rattle.rules.specs.Plain.{empty, sold_work}
 use Rattle.rules.specs.Calls.{sold, ask, shows, refuse, own_checks}
 use Rattle.rules.specs.Tables.{tables, totals_table}
-use Rattle.rules.specs.Desk.{bandwidth_desk, answer, outcome}
+use Rattle.rules.specs.Desk.{answer, outcome}
 use Rattle.rules.proofs.Checks.{passed_answer}
 use Rattle.rules.proofs.Step.{set_up_passed}
 use Rattle.demands.specs.Demands.{Desk, Demand3}

@@ -1,12 +1,10 @@
 -- Along a path: what a loop that takes from each link has done, one link further.
 use mathlib.Core.Path.{◌≡◌}
-use mathlib.Core.List.{List, [], ◌∷◌}
-use Prim.Native.Nat.{ℕ, zero, suc, ◌+◌, ◌≤◌, ◌<◌}
+use mathlib.Core.List.{List}
+use Prim.Native.Nat.{ℕ, ◌+◌, ◌≤◌, ◌<◌}
 use native.Mathlib.Numerals.{add-one}
-use native.Mathlib.Omega.{arith}
 use lib.ListN.{length, get_or, drop, drop_of_length-le}
 use lib.Seq.{drop-cons}
-use Rattle.units.specs.Lists.{All}
 use Rattle.free_table.specs.Taking.{less_span}
 use Rattle.rebuild.specs.Rebuilding.{less_path}
 

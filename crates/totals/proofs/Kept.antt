@@ -2,11 +2,11 @@
 use mathlib.Core.Path.{◌≡◌, refl, sym, ap, ◌∙◌}
 use mathlib.Core.List.{List, [], ◌∷◌, map}
 use mathlib.Core.Bool.{false}
-use Prim.Native.Nat.{ℕ, zero, suc, ◌+◌, ◌-◌, ◌*◌, ◌≤◌, ◌<◌}
+use Prim.Native.Nat.{ℕ, ◌+◌, ◌*◌, ◌≤◌, ◌<◌}
 use native.Mathlib.Decide.{dec_lt}
 use native.Mathlib.Nat.{mul-le-mul}
 use native.Mathlib.Omega.{arith}
-use lib.ListN.{length, get_or, length-map}
+use lib.ListN.{length, length-map}
 use lib.Seq.{ext_get_or}
 use Rattle.units.specs.declared.Link.{Link}
 use Rattle.units.specs.declared.Head.{Head}
@@ -37,7 +37,7 @@ module _ (links : List Link) (p : Plain) (few : length links ≤ most_links) whe
   table_is a =
       ext_get_or 0 (totals_of p.bookings) (totals_table links p) (length_totals p.bookings ∙ sym (length_padded 0 most_totals first (omega (arith, long))))
       (λ l inside. total_at p.bookings l (omega (arith, length_totals p.bookings)) ∙ elim (dec_lt l (length links)) [
-        yes h ↦ sym (count_at 0 (total p.bookings) _ 0 (length links) l h ∙ (let z : 0 + l ≡ l = omega arith in ap (total p.bookings) z))
+        | yes h ↦ sym (count_at 0 (total p.bookings) _ 0 (length links) l h ∙ (let z : 0 + l ≡ l = omega arith in ap (total p.bookings) z))
         | no h ↦ total_past p.bookings a l (omega arith) ∙ sym (padded_past 0 most_totals first l (omega (arith, long)))
       ])
     where

@@ -1,24 +1,20 @@
 -- The totals of a list of bookings: one booking more, the most that they can be, and the table that holds them.
-use mathlib.Core.Path.{◌≡◌, refl, sym, ap, ap₂, ◌∙◌}
+use mathlib.Core.Path.{◌≡◌, sym, ap, ◌∙◌}
 use mathlib.Core.List.{List, [], ◌∷◌, map, append-nil}
-use mathlib.Core.Bool.{Bool, true, false}
 use Prim.Native.Nat.{ℕ, zero, suc, ◌+◌, ◌-◌, ◌*◌, ◌≤◌, ◌<◌}
 use native.Mathlib.Decide.{dec_lt}
 use native.Mathlib.Omega.{arith}
 use lib.ListN.{length, get_or, replicate, length-map, get_or-eq_default}
 use lib.Seq.{ext_get_or}
-use Rattle.units.specs.declared.Link.{Link}
 use Rattle.units.specs.declared.Head.{Head}
-use Rattle.units.specs.Limits.{most_links, most_totals, most_bookings}
-use Rattle.units.specs.Lists.{if_so, member, sum, count_from, padded, All}
+use Rattle.units.specs.Limits.{most_totals, most_bookings}
+use Rattle.units.specs.Lists.{member, sum, count_from, All}
 use Rattle.units.specs.Work.{most_work}
-use Rattle.units.proofs.Tests.{absent_test}
-use Rattle.units.proofs.Padded.{length_count, length_padded, count_at, padded_past}
+use Rattle.units.proofs.Padded.{length_count, count_at}
 use Rattle.book.specs.declared.Booking.{Booking as Place}
 use Rattle.book.specs.Places.{booking_in, place_path}
-use Rattle.rules.specs.Plain.{Booking, Plain, work, sold_work, graph}
-use Rattle.rules.specs.Tables.{booking_of, booking_at, held_by, totals_table}
-use Rattle.rules.specs.Sound.{BookingRight}
+use Rattle.rules.specs.Plain.{Booking, work}
+use Rattle.rules.specs.Tables.{booking_of, booking_at, held_by}
 use Rattle.totals.specs.Totals.{place_work, more_along, totals_of, AtMost, WorkRight, CanTotal}
 use Rattle.totals.proofs.Along.{length_more, more_at, if_so_most}
 
@@ -40,8 +36,8 @@ unfolding sum
 more_totals b r bs =
     ext_get_or 0 (more_along (place_work b) (place_path b) (totals_of bs)) (totals_of (booking_of b ∷ bs)) (length_more (place_work b) (place_path b) (totals_of bs) ∙ length_totals bs ∙ sym (length_totals (booking_of b ∷ bs)))
     (λ l inside. let h : l < most_totals = omega (arith, length_more (place_work b) (place_path b) (totals_of bs), length_totals bs) in
-        more_at (place_work b) (place_path b) (totals_of bs) r.links_differ (rw length_totals r.links_right) l
-        ∙ rw (total_at bs l h, total_at (booking_of b ∷ bs) l h) (omega arith))
+    more_at (place_work b) (place_path b) (totals_of bs) r.links_differ (rw length_totals r.links_right) l
+    ∙ rw (total_at bs l h, total_at (booking_of b ∷ bs) l h) (omega arith))
 
 -- ---- the most that they can be
 

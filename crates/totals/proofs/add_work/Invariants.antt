@@ -1,5 +1,4 @@
 -- `add_work` meets its contract: the work is added to the links before `link`, and what is left is to add to the others.
-use Rattle.std.proofs.Common.{drop}
 use Rattle.book.specs.Places.{place_path}
 use Rattle.totals.proofs.Along.{Adding}
 use Rattle.totals.proofs.add_work.Given as goal
