@@ -136,8 +136,8 @@ static void refused_set_ups(void)
     printf("65 links, guard 16 refused %u\n", gcr_set_up(&head, many, GCR_LINKS + 1, TABLES, 16));
     printf("a short table refused %u\n", gcr_set_up(&head, LINKS, events, GCR_EVENTS - 1, free_figures,
                                                     GCR_FREE_FIGURES, book, GCR_BOOK_FIGURES, totals, GCR_TOTALS, 0));
-    printf("short totals refused %u\n", gcr_set_up(&head, LINKS, events, GCR_EVENTS, free_figures, GCR_FREE_FIGURES, book,
-                                                   GCR_BOOK_FIGURES, totals, GCR_TOTALS - 1, 0));
+    printf("short totals refused %u\n", gcr_set_up(&head, LINKS, events, GCR_EVENTS, free_figures, GCR_FREE_FIGURES,
+                                                   book, GCR_BOOK_FIGURES, totals, GCR_TOTALS - 1, 0));
     printf("guard 16 refused %u\n", gcr_set_up(&head, LINKS, TABLES, 16));
     printf("equal ends, guard 16 refused %u\n", gcr_set_up(&head, &looped, 1, TABLES, 16));
     printf("equal ends, guard 15 refused %u\n", gcr_set_up(&head, &looped, 1, TABLES, 15));

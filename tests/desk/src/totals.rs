@@ -11,7 +11,7 @@ pub struct Counts {
     /// Figures that are not zero; and that are above 32 bits.
     pub not_zero: u32,
     pub large: u32,
-    /// Figures that would be more with the guard counted; that have a booking which has begun; and one in its guard.
+    /// Figures that would be more with the guard counted; that have a running booking; and one in its guard.
     pub guard_left_out: u32,
     pub running: u32,
     pub in_guard: u32,
@@ -56,12 +56,12 @@ impl Counts {
 
     fn add_figure(&mut self, desk: &Desk, link: u32, work: u64) {
         let on_link = || desk.bookings.iter().filter(|booking| booking.path.contains(&link));
-        let begun = |booking: &Booking| booking.start < desk.clock && desk.clock < booking.end();
+        let running = |booking: &Booking| booking.start < desk.clock && desk.clock < booking.end();
         self.by_last_call[self.last.kind] += 1;
         self.not_zero += (work > 0) as u32;
         self.large += (work > u64::from(u32::MAX)) as u32;
         self.guard_left_out += (work > 0 && desk.guard > 0) as u32;
-        self.running += on_link().any(begun) as u32;
+        self.running += on_link().any(running) as u32;
         self.in_guard += on_link().any(|booking| booking.end() <= desk.clock) as u32;
         self.after_drop += (self.last.dropped >> link & 1) as u32;
         self.after_cancel += (self.last.cancelled >> link & 1) as u32;
@@ -70,9 +70,9 @@ impl Counts {
     /// The counts, for print.
     pub fn told(&self) -> String {
         format!(
-            "{} questions for sold work, by the last other call {:?}; {} not zero, {} above 32 bits; {} without the guard, {} with a running \
-             booking, {} with one in its guard; {} after a clock move that drops a booking of the link, {} after a \
-             cancellation; {} refused right behind the list, {} further off",
+            "{} questions for sold work, by the last other call {:?}; {} not zero, {} above 32 bits; {} without the guard, {} \
+             with a running booking, {} with one in its guard; {} after a clock move that drops a booking of the link, {} \
+             after a cancellation; {} refused right behind the list, {} further off",
             self.by_last_call.iter().sum::<u32>(),
             self.by_last_call,
             self.not_zero,
@@ -93,7 +93,7 @@ impl Counts {
             ("sold work after each call", *self.by_last_call.iter().min().expect("a call"), 500),
             ("sold work", self.not_zero, 50_000),
             ("sold work above 32 bits", self.large, 500),
-            ("sold work without a guard", self.guard_left_out, 50_000),
+            ("sold work that leaves a guard out", self.guard_left_out, 50_000),
             ("sold work of a running booking", self.running, 10_000),
             ("sold work of a booking in its guard", self.in_guard, 10_000),
             ("sold work after a drop", self.after_drop, 1_000),
