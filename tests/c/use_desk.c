@@ -1,5 +1,7 @@
-/* Runs document 01's session on a desk, as the station's daemon does, with some figures shown and starts listed on the way,
- * then some calls under a guard of two minutes and some that break off there, and prints what each call answered. */
+/* Runs document 01's session on a desk, as the station's daemon does, with some figures shown, starts listed and sold work
+ * asked for on the way, then some calls under a guard of two minutes, some that break off there and some on a wide link, and
+ * prints what each call answered. */
+#include <inttypes.h>
 #include <stdio.h>
 
 #include "gcr_desk.h"
@@ -9,10 +11,13 @@ enum { OPEN = 1000000000 };
 /* A desk, and the arguments that lend it. */
 static struct gcr_head head;
 static uint32_t events[GCR_EVENTS], free_figures[GCR_FREE_FIGURES], book[GCR_BOOK_FIGURES];
-static const struct gcr_link links[] = {{0, 1, 10}, {1, 2, 10}, {0, 2, 4}};
+static uint64_t totals[GCR_TOTALS];
+static const struct gcr_link triangle[] = {{0, 1, 10}, {1, 2, 10}, {0, 2, 4}}, wide[] = {{0, 2, 1000000}};
+static const struct gcr_link *links = triangle;
+static size_t link_count = sizeof triangle / sizeof *triangle;
 
-#define LINKS links, sizeof links / sizeof *links
-#define TABLES events, GCR_EVENTS, free_figures, GCR_FREE_FIGURES, book, GCR_BOOK_FIGURES
+#define LINKS links, link_count
+#define TABLES events, GCR_EVENTS, free_figures, GCR_FREE_FIGURES, book, GCR_BOOK_FIGURES, totals, GCR_TOTALS
 
 static void print_start(const struct gcr_choice *choice)
 {
@@ -87,6 +92,16 @@ static void show(uint32_t link, uint32_t minute)
         printf("  link %u minute %u free %u\n", link, minute, shown.free);
 }
 
+/* The work beside a refusal should be zero. */
+static void sold_work(uint32_t link)
+{
+    struct gcr_sold sold = gcr_sold_work(&head, LINKS, TABLES, link);
+    printf("  link %u", link);
+    if (sold.refusal != 0)
+        printf(" refused %u", sold.refusal);
+    printf(" sold %" PRIu64 "\n", sold.work);
+}
+
 /* Lists the starts of a request's window into the first so many figures of a list that held ones. */
 static void list_starts(struct gcr_request asked, size_t figures)
 {
@@ -120,7 +135,9 @@ static void refused_set_ups(void)
     printf("no link refused %u\n", gcr_set_up(&head, links, 0, TABLES, 0));
     printf("65 links, guard 16 refused %u\n", gcr_set_up(&head, many, GCR_LINKS + 1, TABLES, 16));
     printf("a short table refused %u\n", gcr_set_up(&head, LINKS, events, GCR_EVENTS - 1, free_figures,
-                                                    GCR_FREE_FIGURES, book, GCR_BOOK_FIGURES, 0));
+                                                    GCR_FREE_FIGURES, book, GCR_BOOK_FIGURES, totals, GCR_TOTALS, 0));
+    printf("short totals refused %u\n", gcr_set_up(&head, LINKS, events, GCR_EVENTS, free_figures, GCR_FREE_FIGURES,
+                                                   book, GCR_BOOK_FIGURES, totals, GCR_TOTALS - 1, 0));
     printf("guard 16 refused %u\n", gcr_set_up(&head, LINKS, TABLES, 16));
     printf("equal ends, guard 16 refused %u\n", gcr_set_up(&head, &looped, 1, TABLES, 16));
     printf("equal ends, guard 15 refused %u\n", gcr_set_up(&head, &looped, 1, TABLES, 15));
@@ -132,16 +149,23 @@ static int session(void)
     if (gcr_set_up(&head, LINKS, TABLES, 0) != 0)
         return 1;
     printf("desk links %u\n", head.links);
+    sold_work(2);
     book_one(1, 7, request(4, 10, 0, OPEN));
+    sold_work(2);
     show(2, 9);
     show(2, 10);
     book_one(2, 9, request(6, 5, 0, OPEN));
     book_one(3, 3, request(5, 4, 2, 4));
     book_one(4, 3, request(5, 4, 2, 5));
     print_head();
+    sold_work(0);
+    sold_work(1);
+    sold_work(2);
+    sold_work(3);
     show(0, 4);
     show(1, 5);
     cancel_one(5, 9);
+    sold_work(0);
     show(0, 4);
     list_starts(request(6, 2, 0, OPEN), GCR_LIST_FIGURES);
     list_starts(request(6, 2, 4, 8), GCR_LIST_FIGURES);
@@ -153,6 +177,8 @@ static int session(void)
     show(0, 0);
     move_clock(7, 10);
     print_head();
+    sold_work(0);
+    sold_work(2);
     show(2, 9);
     show(2, 10);
     show(3, 10);
@@ -163,6 +189,11 @@ static int session(void)
     offer_one(10, request(4, 3, 0, OPEN));
     list_starts(request(4, 3, 0, OPEN), GCR_LIST_FIGURES - 1);
     list_starts(request(4, 3, 0, OPEN), GCR_LIST_FIGURES);
+    sold_work(3);
+    events[0]--;
+    sold_work(0);
+    totals[GCR_TOTALS - 1]++;
+    sold_work(0);
     return 0;
 }
 
@@ -178,11 +209,15 @@ static int guarded(void)
     book_one(2, 2, request(10, 5, 0, 11));
     book_one(3, 2, request(10, 5, 0, OPEN));
     list_starts(request(10, 5, 0, OPEN), GCR_LIST_FIGURES);
+    sold_work(0);
     move_clock(4, 10);
     print_head();
+    sold_work(0);
     book_one(5, 1, request(10, 1, 0, OPEN));
     move_clock(6, 12);
     print_head();
+    sold_work(0);
+    sold_work(2);
     cancel_one(7, 1);
     show(0, 1000525615);
     show(0, 1000525616);
@@ -211,8 +246,30 @@ static int broken_off(void)
     return 0;
 }
 
+/* All of a wide link, sold for a year and then for another, is more than 32 bits tell. */
+static int sold_wide(void)
+{
+    links = wide;
+    link_count = sizeof wide / sizeof *wide;
+    if (gcr_set_up(&head, LINKS, TABLES, 15) != 0)
+        return 1;
+    printf("desk links %u guard %u\n", head.links, head.guard);
+    book_one(1, 1, request(1000000, 525600, 0, OPEN));
+    sold_work(0);
+    book_one(2, 2, request(1000000, 525600, 0, OPEN));
+    sold_work(0);
+    move_clock(3, 525614);
+    sold_work(0);
+    move_clock(4, 525615);
+    sold_work(0);
+    sold_work(1);
+    cancel_one(5, 2);
+    sold_work(0);
+    return 0;
+}
+
 int main(void)
 {
     refused_set_ups();
-    return session() != 0 || guarded() != 0 || broken_off() != 0;
+    return session() != 0 || guarded() != 0 || broken_off() != 0 || sold_wide() != 0;
 }

@@ -1,9 +1,9 @@
 //! A plain, reasonably fast desk with the proved one's checks and tables. Each call is lent the links, the head and the
-//! tables; it checks their sizes, then that they are sound, by making events and free figures anew from the book, and then
-//! what document 01 asks of the call. A refused call writes nothing.
+//! tables; it checks their sizes, then that they are sound, by making events, free figures and totals anew from the book, and
+//! then what documents 01 and 02 ask of the call. A refused call writes nothing.
 
 use desk_tests::{Head, Link, Refused, Request};
-use desk_tests::{BOOKINGS, EVENTS, LINKS, LIST_FIGURES, NODES, PATH_LINKS, PLACE, ROW};
+use desk_tests::{BOOKINGS, EVENTS, LINKS, LIST_FIGURES, NODES, PATH_LINKS, PLACE, ROW, TOTALS};
 use desk_tests::{MAX_BANDWIDTH, MAX_CAPACITY, MAX_DURATION, MAX_GUARD, MAX_MINUTE, MAX_NUMBER, MAX_SHOWN};
 
 // The fields of a place of the book; the path follows them.
@@ -20,6 +20,7 @@ pub struct Tables<'a> {
     pub events: &'a mut [u32],
     pub free: &'a mut [u32],
     pub book: &'a mut [u32],
+    pub totals: &'a mut [u64],
 }
 
 pub type Path = [u32; PATH_LINKS];
@@ -71,6 +72,7 @@ pub fn book(links: &[Link], tables: &mut Tables, number: u32, request: &Request)
     let figures = &mut tables.book[place * PLACE..][..PLACE];
     figures[..PATH].copy_from_slice(&[number, start.minute, request.duration, request.bandwidth, start.count]);
     figures[PATH..].copy_from_slice(&start.path);
+    add_work(figures, tables.totals);
     tables.head.bookings += 1;
     Ok(start)
 }
@@ -137,10 +139,20 @@ pub fn show(links: &[Link], tables: &Tables, link: u32, minute: u32) -> Result<u
     Ok(tables.free[row * ROW + link as usize])
 }
 
+/// Refuses 1, 3, 4.
+pub fn sold_work(links: &[Link], tables: &Tables, link: u32) -> Result<u64, u32> {
+    check_tables(links, tables)?;
+    if link as usize >= links.len() {
+        return Err(4);
+    }
+    Ok(tables.totals[link as usize])
+}
+
 fn check_sizes(links: &[Link], tables: &Tables) -> Result<(), u32> {
     let good = tables.events.len() == EVENTS
         && tables.free.len() == EVENTS * ROW
         && tables.book.len() == BOOKINGS * PLACE
+        && tables.totals.len() == TOTALS
         && (1..=LINKS).contains(&links.len());
     good.then_some(()).ok_or(1)
 }
@@ -193,7 +205,7 @@ fn sound(links: &[Link], tables: &Tables) -> Option<usize> {
     make_free(links, guard, used, &events[..rows], &mut free)?;
     let figures = rows * ROW;
     let same = tables.events == events && tables.free[..figures] == free[..figures];
-    (same && all_zero(&tables.free[figures..])).then_some(rows)
+    (same && all_zero(&tables.free[figures..]) && tables.totals == make_totals(used)).then_some(rows)
 }
 
 fn all_zero(figures: &[u32]) -> bool {
@@ -286,7 +298,20 @@ fn make_free(links: &[Link], guard: u32, used: &[u32], events: &[u32], free: &mu
     (!oversold).then_some(())
 }
 
-/// Makes events and free figures anew from head and book, which are sound.
+/// The totals that bookings give.
+fn make_totals(used: &[u32]) -> [u64; TOTALS] {
+    let mut totals = [0; TOTALS];
+    used.chunks_exact(PLACE).for_each(|place| add_work(place, &mut totals));
+    totals
+}
+
+/// Adds the work of the booking of a place to the totals of its links.
+fn add_work(place: &[u32], totals: &mut [u64]) {
+    let work = u64::from(place[BANDWIDTH]) * u64::from(place[DURATION]);
+    place[PATH..][..place[COUNT] as usize].iter().for_each(|&link| totals[link as usize] += work);
+}
+
+/// Makes events, free figures and totals anew from head and book, which are sound.
 fn write_figures(links: &[Link], tables: &mut Tables) {
     let used = &tables.book[..tables.head.bookings as usize * PLACE];
     let mut events = [0; EVENTS];
@@ -295,6 +320,7 @@ fn write_figures(links: &[Link], tables: &mut Tables) {
     tables.events.copy_from_slice(&events);
     make_free(links, guard, used, &events[..rows], tables.free).expect("no link is oversold");
     tables.free[rows * ROW..].fill(0);
+    tables.totals.copy_from_slice(&make_totals(used));
 }
 
 /// Refuses 4, 5.

@@ -1,4 +1,4 @@
-//! Nanoseconds for each of the seven calls on the fullest desk (64 links, 64 bookings of 31 links, 129 events), by the
+//! Nanoseconds for each of the eight calls on the fullest desk (64 links, 64 bookings of 31 links, 129 events), by the
 //! proved desk through its exported calls and by the unverified one, in one run. Both check that the tables are sound by
 //! making them anew; both work on a fresh copy of the tables each time, which is counted. A listing has a fullest desk of
 //! its own, on which it takes longest, and a typical one; it is timed beside plain Rust of the same steps, and beside the
@@ -21,7 +21,8 @@ type Listing = fn(&[Link], &fast::Tables, &Request, &mut [u32]) -> Result<u32, u
 
 /// The same tables, lent to the unverified desk.
 fn lent(t: &mut Tables) -> fast::Tables<'_> {
-    fast::Tables { head: &mut t.head, events: &mut t.events, free: &mut t.free, book: &mut t.book }
+    let Tables { head, events, free, book, totals } = t;
+    fast::Tables { head, events, free, book, totals }
 }
 
 /// Times a call on copies of the tables of a desk.
@@ -187,6 +188,12 @@ fn main() {
         |t| fast::move_clock(links, &mut lent(t), 500).is_ok(),
     );
     time("show", &desk, |t| exported::show(links, t, 0, 500).is_ok(), |t| fast::show(links, &lent(t), 0, 500).is_ok());
+    time(
+        "sold work",
+        &desk,
+        |t| exported::sold_work(links, t, 0).is_ok(),
+        |t| fast::sold_work(links, &lent(t), 0).is_ok(),
+    );
     for (what, in_turn) in [("the longest", false), ("the longest with links in turn", true)] {
         let (desk, request) = longest_listing(in_turn);
         time_list(what, &desk, &request);

@@ -7,7 +7,7 @@ use std::process::{Command, Stdio};
 use desk_bench::fast::{self, Start};
 use desk_bench::same_steps;
 use desk_tests::cases::cases;
-use desk_tests::damages::{damage, forged};
+use desk_tests::damages::{damage, forged, wrong_totals};
 use desk_tests::exported::listing;
 use desk_tests::lines::output;
 use desk_tests::listings::{self, KINDS};
@@ -26,8 +26,8 @@ fn answered(start: Start) -> plain::Start {
 
 /// Runs a call on lent tables.
 fn run(links: &[Link], tables: &mut Tables, call: &Call) -> Answer {
-    let Tables { head, events, free, book } = tables;
-    let lent = &mut fast::Tables { head, events, free, book };
+    let Tables { head, events, free, book, totals } = tables;
+    let lent = &mut fast::Tables { head, events, free, book, totals };
     run_lent(links, lent, call).unwrap_or_else(Answer::Refused)
 }
 
@@ -65,6 +65,7 @@ fn run_lent(links: &[Link], lent: &mut fast::Tables, call: &Call) -> Result<Answ
             Answer::Moved
         }
         Call::Show { link, minute } => Answer::Shown(fast::show(links, lent, *link, *minute)?),
+        Call::Sold { link } => Answer::Sold(fast::sold_work(links, lent, *link)?),
     })
 }
 
@@ -122,6 +123,23 @@ fn damages() {
     }
 }
 
+/// Totals with a mistake are refused.
+#[test]
+fn wrong_totals_are_refused() {
+    let mut random = Random::new(SEED);
+    for seed in SEED..SEED + 200 {
+        let mut history = History::new(seed);
+        for step in 0..30 {
+            history.step();
+            let desk = &history.desk;
+            for (what, totals) in wrong_totals(&mut random, desk) {
+                let tables = Tables { totals, ..tables::of(desk) };
+                refused_alike(&desk.links, tables, &format!("seed {seed:#x}, step {step}: {what}"));
+            }
+        }
+    }
+}
+
 /// Tables that aren't sound are refused by every call but set-up, and nothing is written; sound ones are shown.
 fn refused_alike(links: &[Link], mut tables: Tables, what: &str) {
     let before = tables.clone();
@@ -134,7 +152,8 @@ fn refused_alike(links: &[Link], mut tables: Tables, what: &str) {
     if let Answer::Refused(_) = expected {
         let request = desk_tests::Request::default();
         let list = Call::List(LIST_FIGURES, request);
-        for call in [Call::Cancel(1), Call::MoveClock(0), Call::Book(0, request), Call::Offer(request), list] {
+        let sold = Call::Sold { link: u32::MAX };
+        for call in [Call::Cancel(1), Call::MoveClock(0), Call::Book(0, request), Call::Offer(request), list, sold] {
             assert_eq!(run(links, &mut tables, &call), expected, "{what}, {call:?}");
         }
         let another_length = Call::List(LIST_FIGURES + 1, request);

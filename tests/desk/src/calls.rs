@@ -52,6 +52,7 @@ pub fn style(random: &mut Random) -> Style {
 pub fn net(random: &mut Random, style: Style) -> Vec<Link> {
     let capacity = match style {
         Style::Full | Style::Spread => *pick(random, &[60, 400, MAX_CAPACITY as u64]),
+        Style::Long => *pick(random, &[20, 1_000, MAX_CAPACITY as u64, MAX_CAPACITY as u64]),
         _ => *pick(random, &[3, 10, 20, 1_000, MAX_CAPACITY as u64]),
     };
     let (nodes, links) = match style {
@@ -126,13 +127,11 @@ pub fn order(random: &mut Random, style: Style, desk: &Desk) -> Call {
     }
 }
 
-/// A random one of the seven calls. Set-ups are rare, and nearly half of them are bad.
+/// A random one of the eight calls. Set-ups are rare, and nearly half of them are bad.
 pub fn call(random: &mut Random, style: Style, desk: &Desk) -> Call {
     match random.below(200) {
         0 => set_up(random, style),
         1..=30 => {
-            let count = desk.links.len() as u64;
-            let link = if random.once_in(20) { random.within(count, count + 70) } else { random.below(count) };
             let minute = match random.below(20) {
                 0 => desk.clock.wrapping_sub(1),
                 1 => MAX_SHOWN - random.within(0, MAX_GUARD as u64 + 1) as u32,
@@ -142,12 +141,13 @@ pub fn call(random: &mut Random, style: Style, desk: &Desk) -> Call {
                 5 => desk.clock,
                 _ => near_event(random, desk),
             };
-            Call::Show { link: link as u32, minute }
+            Call::Show { link: asked_link(random, desk), minute }
         }
         31..=50 => {
             let figures = if random.once_in(20) { list_size(random) } else { LIST_FIGURES };
             Call::List(figures, listed(random, style, desk))
         }
+        51..=70 => Call::Sold { link: asked_link(random, desk) },
         _ => {
             let mut call = order(random, style, desk);
             if let Call::Book(_, request) | Call::Offer(request) = &mut call {
@@ -155,6 +155,16 @@ pub fn call(random: &mut Random, style: Style, desk: &Desk) -> Call {
             }
             call
         }
+    }
+}
+
+/// A link to ask for: one in twenty is right behind the list, or further off it.
+fn asked_link(random: &mut Random, desk: &Desk) -> u32 {
+    let (count, most) = (desk.links.len() as u32, LINKS as u32);
+    match random.below(40) {
+        0 => count,
+        1 => (*pick(random, &[most - 1, most, 2 * most, u32::MAX])).max(count + 1),
+        _ => random.below(count as u64) as u32,
     }
 }
 

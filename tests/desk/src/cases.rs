@@ -1,8 +1,9 @@
 //! Histories worked out by hand from document 01: its session, its examples and the faults that it names; listings by
-//! document 02's Job 1; offers after cancellations by its Job 4; guards by its Job 5; and where paths break off by its Job 6.
+//! document 02's Job 1; offers after cancellations by its Job 4; guards by its Job 5; where paths break off by its Job 6; and
+//! sold work by its Job 7.
 
 use crate::plain::{Answer, Call, Range, Start};
-use crate::{Link, Request, BOOKINGS, LIST_FIGURES, MAX_BANDWIDTH, MAX_DURATION, MAX_GUARD, MAX_MINUTE};
+use crate::{Link, Request, BOOKINGS, LINKS, LIST_FIGURES, MAX_BANDWIDTH, MAX_DURATION, MAX_GUARD, MAX_MINUTE};
 
 pub struct Case {
     pub name: &'static str,
@@ -51,6 +52,17 @@ fn shown(link: u32, minute: u32, free: u32) -> (Call, Answer) {
     (Call::Show { link, minute }, Answer::Shown(free))
 }
 
+/// Every link is asked for its sold work, and is refused the one behind them.
+fn all_sold(works: &[u64]) -> Vec<(Call, Answer)> {
+    let behind = refused(Call::Sold { link: works.len() as u32 }, 4);
+    (0..).zip(works).map(|(link, &work)| (Call::Sold { link }, Answer::Sold(work))).chain([behind]).collect()
+}
+
+/// Each step, and then the sold work of every link.
+fn selling<const N: usize>(steps: Vec<((Call, Answer), [u64; N])>) -> Vec<(Call, Answer)> {
+    steps.into_iter().flat_map(|(step, works)| [vec![step], all_sold(&works)].concat()).collect()
+}
+
 fn refused(call: Call, refusal: u32) -> (Call, Answer) {
     (call, Answer::refused(refusal))
 }
@@ -79,7 +91,7 @@ fn guarded(name: &'static str, guard: u32, links: Vec<Link>, steps: Vec<(Call, A
 
 /// Document 01's session is the first.
 pub fn cases() -> Vec<Case> {
-    [desk_cases(), listing_cases(), guard_cases(), break_off_cases()].into_iter().flatten().collect()
+    [desk_cases(), listing_cases(), guard_cases(), break_off_cases(), sold_cases()].into_iter().flatten().collect()
 }
 
 fn desk_cases() -> Vec<Case> {
@@ -149,6 +161,20 @@ fn break_off_cases() -> Vec<Case> {
         case("a break-off at low where no chain leads", triangle(), broken_without_a_chain()),
         guarded("a break-off in the guard's minutes", 2, one(), broken_in_the_guard()),
         guarded("the last break-offs under the longest guard", MAX_GUARD, one(), broken_last_minutes()),
+    ]
+}
+
+fn sold_cases() -> Vec<Case> {
+    let full = || links(&[(0, 1, MAX_BANDWIDTH)]);
+    vec![
+        case("sold work in document 01's session", triangle(), sold_session()),
+        guarded("sold work without the guard", 3, triangle(), sold_without_the_guard()),
+        guarded("sold work until the guard has ended", 3, triangle(), sold_until_the_guard_ends()),
+        guarded("sold work without what is cancelled", 3, triangle(), sold_without_the_cancelled()),
+        case("the largest sum of sold work", full(), largest_sum(0)),
+        guarded("the largest sum of sold work under the longest guard", MAX_GUARD, full(), largest_sum(MAX_GUARD)),
+        case("sold work of 64 links", links(&[(0, 1, 1_000); LINKS]), sold_on_all_links()),
+        guarded("sold work before and after set-ups", 2, triangle(), sold_between_set_ups()),
     ]
 }
 
@@ -906,4 +932,125 @@ fn broken_last_minutes() -> Vec<(Call, Answer)> {
         no_start(Call::Offer(Request { latest: MAX_MINUTE, ..minute(999_999_985) }), MAX_MINUTE),
         no_start(Call::Offer(Request { duration: MAX_DURATION, ..minute(MAX_MINUTE) }), MAX_MINUTE),
     ]
+}
+
+/// 4 Mb/s for 10 minutes on link 2, 6 for 5 and 5 for 4 on links 0 and 1.
+fn sold_session() -> Vec<(Call, Answer)> {
+    let works =
+        [[0, 0, 40], [30, 30, 40], [30, 30, 40], [50, 50, 40], [20, 20, 40], [20, 20, 40], [0, 0, 0], [0, 0, 0]];
+    selling(session().into_iter().zip(works).collect())
+}
+
+/// 6 Mb/s for 5 minutes on links 0 and 1, and 4 for 10 on link 0.
+fn two_sold() -> [(Call, Answer); 2] {
+    [booked(1, request(2, 6, 5, 0, 0), 0, &[0, 1]), booked(2, request(1, 4, 10, 0, 0), 0, &[0])]
+}
+
+/// What is refused, offered, listed and shown sells nothing.
+fn sold_without_the_guard() -> Vec<(Call, Answer)> {
+    let [first, second] = two_sold();
+    let mut steps = all_sold(&[0, 0, 0]);
+    steps.extend(selling(vec![
+        (first, [30, 30, 0]),
+        (no_start(Call::Book(2, request(1, 5, 10, 0, 0)), 0), [30, 30, 0]),
+        (second, [70, 30, 0]),
+        (refused(Call::Book(2, request(2, 4, 1, 0, 0)), 6), [70, 30, 0]),
+        (offered(request(2, 4, 1, 0, 0), 0, &[2]), [70, 30, 0]),
+        (listed(request(2, 4, 1, 0, 20), &[(0, 20)]), [70, 30, 0]),
+        (shown(0, 12, 6), [70, 30, 0]),
+        (refused(Call::Sold { link: LINKS as u32 - 1 }, 4), [70, 30, 0]),
+        (refused(Call::Sold { link: LINKS as u32 }, 4), [70, 30, 0]),
+        (refused(Call::Sold { link: u32::MAX }, 4), [70, 30, 0]),
+    ]));
+    steps
+}
+
+/// Booking 1 ends at 5 and its guard at 8, booking 2 at 10 and 13. Until then both count whole.
+fn sold_until_the_guard_ends() -> Vec<(Call, Answer)> {
+    let [first, second] = two_sold();
+    selling(vec![
+        (first, [30, 30, 0]),
+        (second, [70, 30, 0]),
+        (clock(4), [70, 30, 0]),
+        (clock(5), [70, 30, 0]),
+        (clock(7), [70, 30, 0]),
+        (refused(Call::MoveClock(6), 10), [70, 30, 0]),
+        (clock(8), [40, 0, 0]),
+        (clock(12), [40, 0, 0]),
+        (booked(1, request(2, 1, 2, 0, 12), 12, &[2]), [40, 0, 2]),
+        (clock(13), [0, 0, 2]),
+        (clock(MAX_MINUTE), [0, 0, 0]),
+    ])
+}
+
+/// Cancelled before its start, while it runs, and in its guard.
+fn sold_without_the_cancelled() -> Vec<(Call, Answer)> {
+    let [first, second] = two_sold();
+    selling(vec![
+        (first, [30, 30, 0]),
+        (second, [70, 30, 0]),
+        (booked(3, request(2, 10, 100, 50, 50), 50, &[0, 1]), [1_070, 1_030, 0]),
+        (refused(Call::Cancel(4), 9), [1_070, 1_030, 0]),
+        (cancelled(3), [70, 30, 0]),
+        (refused(Call::Cancel(3), 9), [70, 30, 0]),
+        (clock(2), [70, 30, 0]),
+        (cancelled(2), [30, 30, 0]),
+        (clock(6), [30, 30, 0]),
+        (cancelled(1), [0, 0, 0]),
+    ])
+}
+
+/// 64 bookings of 1,000,000 Mb/s for 525,600 minutes, one behind the other and its guard.
+fn largest_sum(guard: u32) -> Vec<(Call, Answer)> {
+    const ONE: u64 = 525_600_000_000;
+    let start = |place: u32| place * (MAX_DURATION + guard);
+    let whole = |place| request(1, MAX_BANDWIDTH, MAX_DURATION, start(place), start(place));
+    let book = |place: u32| (booked(place + 1, whole(place), start(place), &[0]), [ONE * u64::from(place + 1)]);
+    let mut steps: Vec<_> = (0..BOOKINGS as u32).map(book).collect();
+    steps.extend([
+        (refused(Call::Book(65, whole(64)), 7), [33_638_400_000_000]),
+        (clock(start(1) - 1), [33_638_400_000_000]),
+        (clock(start(1)), [33_112_800_000_000]),
+        (booked(65, whole(64), start(64), &[0]), [33_638_400_000_000]),
+        (cancelled(33), [33_112_800_000_000]),
+        (clock(start(64)), [ONE]),
+        (cancelled(65), [0]),
+    ]);
+    selling(steps)
+}
+
+/// Each booking takes a whole link: number n the link n - 1, for n minutes.
+fn sold_on_all_links() -> Vec<(Call, Answer)> {
+    let book = |number: u32| booked(number, request(1, 1_000, number, 0, 0), 0, &[number - 1]);
+    let mut steps: Vec<_> = (1..=LINKS as u32).map(book).collect();
+    let mut works: Vec<u64> = (1..=LINKS as u64).map(|number| 1_000 * number).collect();
+    steps.extend(all_sold(&works));
+    steps.push(cancelled(64));
+    works[63] = 0;
+    steps.extend(all_sold(&works));
+    steps.push(clock(2));
+    works[..2].fill(0);
+    steps.extend(all_sold(&works));
+    steps.push(cancelled(63));
+    works[62] = 0;
+    steps.extend(all_sold(&works));
+    steps
+}
+
+/// A refused set-up leaves what is sold, an accepted one leaves nothing of it.
+fn sold_between_set_ups() -> Vec<(Call, Answer)> {
+    let [first, second] = two_sold();
+    let mut steps = selling(vec![
+        (first, [30, 30, 0]),
+        (second, [70, 30, 0]),
+        (no_set_up(Vec::new(), 0, 1), [70, 30, 0]),
+        (no_set_up(triangle(), 16, 4), [70, 30, 0]),
+        (no_set_up(links(&[(1, 1, 7)]), 0, 2), [70, 30, 0]),
+    ]);
+    steps.extend(selling(vec![
+        (set_up(links(&[(0, 1, 7)]), 0), [0]),
+        (booked(1, request(1, 7, 2, 0, 0), 0, &[0]), [14]),
+        (set_up(links(&[(0, 1, 7)]), 0), [0]),
+    ]));
+    steps
 }

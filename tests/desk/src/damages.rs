@@ -1,18 +1,18 @@
-//! Random damages: one figure of the head, the events, the free figures, the book or a link changed, or a length changed;
-//! and forged tables, whose figures all agree with a book that breaks a rule.
+//! Random damages: one figure of the head, the events, the free figures, the book, the totals or a link changed, or a length
+//! changed; totals with a mistake; and forged tables, whose figures all agree with a book that breaks a rule.
 
 use support::Random;
 
 use crate::calls::{guard, long_guard, pick};
-use crate::plain::Desk;
-use crate::tables::{written, Tables};
-use crate::{Link, BOOKINGS, EVENTS, LINKS, PATH_LINKS, PLACE, ROW};
+use crate::plain::{Booking, Desk};
+use crate::tables::{self, written, Tables};
+use crate::{Link, BOOKINGS, EVENTS, LINKS, PATH_LINKS, PLACE, ROW, TOTALS};
 use crate::{MAX_BANDWIDTH, MAX_DURATION, MAX_GUARD, MAX_MINUTE, MAX_NUMBER};
 
 /// Changes one figure or one length, and says which. A changed figure is never the one that stood there.
 pub fn damage(random: &mut Random, links: &mut Vec<Link>, tables: &mut Tables) -> String {
     let head = tables.head;
-    match random.below(21) {
+    match random.below(24) {
         0 => changed(random, "the head's clock", &mut tables.head.clock),
         1 => changed(random, "the head's links", &mut tables.head.links),
         2 => changed(random, "the head's bookings", &mut tables.head.bookings),
@@ -31,7 +31,11 @@ pub fn damage(random: &mut Random, links: &mut Vec<Link>, tables: &mut Tables) -
             let (place, field) = (place(random, head.bookings as usize + 1, BOOKINGS), place(random, 8, PLACE));
             changed(random, &format!("field {field} of place {place}"), &mut tables.book[place * PLACE + field])
         }
-        18 => {
+        18..=20 => {
+            let place = place(random, links.len() + 1, TOTALS);
+            change_total(random, place, &mut tables.totals[place])
+        }
+        21 => {
             let number = random.below(links.len() as u64) as usize;
             let link = &mut links[number];
             let (name, figure) = match random.below(3) {
@@ -41,16 +45,12 @@ pub fn damage(random: &mut Random, links: &mut Vec<Link>, tables: &mut Tables) -
             };
             changed(random, &format!("the {name} of link {number}"), figure)
         }
-        19 => {
-            let (name, table) = match random.below(3) {
-                0 => ("events", &mut tables.events),
-                1 => ("free figures", &mut tables.free),
-                _ => ("book", &mut tables.book),
-            };
-            let length = other_length(random, table.len());
-            table.resize(length, 0);
-            format!("{length} figures of the {name}")
-        }
+        22 => match random.below(4) {
+            0 => change_length(random, "events", &mut tables.events),
+            1 => change_length(random, "free figures", &mut tables.free),
+            2 => change_length(random, "book", &mut tables.book),
+            _ => change_length(random, "totals", &mut tables.totals),
+        },
         _ => {
             let length = loop {
                 let length = random.below(LINKS as u64 + 4) as usize;
@@ -78,8 +78,76 @@ fn change_guard(random: &mut Random, tables: &mut Tables) -> String {
     format!("the head's guard changed from {old} to {}", tables.head.guard)
 }
 
-/// Tables of a desk with one change in its guard, clock or bookings that mostly breaks a rule, and what was changed. Events
-/// and free figures follow the change, so that only the rule itself can tell; an oversold figure is wrapped around or 0.
+/// Changes one half of a total, and says so.
+fn change_total(random: &mut Random, place: usize, total: &mut u64) -> String {
+    let shift = 32 * random.below(2);
+    let mut half = (*total >> shift) as u32;
+    let what = changed(random, &format!("bits {shift} to {} of total {place}", shift + 31), &mut half);
+    *total = *total & !(u64::from(u32::MAX) << shift) | u64::from(half) << shift;
+    what
+}
+
+/// How many mistakes totals may have.
+pub const WRONG_TOTALS: usize = 14;
+
+/// Totals that are not the desk's, each with one mistake, and which.
+pub fn wrong_totals(random: &mut Random, desk: &Desk) -> Vec<(&'static str, Vec<u64>)> {
+    let (right, links) = (tables::of(desk).totals, desk.links.len() as u64);
+    let with = |place: usize, total: u64| [&right[..place], &[total], &right[place + 1..]].concat();
+    let any = random.below(TOTALS as u64) as usize;
+    let mut wrong = vec![
+        ("a low bit", with(any, right[any] ^ 1 << random.below(32))),
+        ("a high bit", with(any, right[any] ^ 1 << random.within(32, 63))),
+    ];
+    if desk.links.len() < TOTALS {
+        let unused = random.within(links, TOTALS as u64 - 1) as usize;
+        let total = right[random.below(links) as usize];
+        wrong
+            .extend([("one in an unused place", with(unused, 1)), ("a total in an unused place", with(unused, total))]);
+    }
+    if !desk.bookings.is_empty() {
+        let booking = pick(random, &desk.bookings);
+        let link = *pick(random, &booking.path);
+        let (place, total) = (link as usize, right[link as usize]);
+        let on_link = || desk.bookings.iter().filter(|booking| booking.path.contains(&link));
+        let sum = |minutes: &dyn Fn(&Booking) -> u32| {
+            on_link().map(|booking| u64::from(booking.bandwidth) * u64::from(minutes(booking))).sum()
+        };
+        let mut exchanged = right.clone();
+        exchanged.swap(place, (place + 1) % TOTALS);
+        wrong.extend([
+            ("one more", with(place, total + 1)),
+            ("one less", with(place, total - 1)),
+            ("none", with(place, 0)),
+            ("the low half", with(place, total & u64::from(u32::MAX))),
+            ("a booking left out", with(place, total - booking.work())),
+            ("a booking twice", with(place, total + booking.work())),
+            ("the guard counted", with(place, sum(&|booking| booking.duration + desk.guard))),
+            (
+                "what is to come",
+                with(place, sum(&|booking| booking.end().max(desk.clock) - booking.start.max(desk.clock))),
+            ),
+            ("bandwidths alone", with(place, sum(&|_| 1))),
+            ("exchanged with the next place", exchanged),
+        ]);
+    }
+    wrong.retain(|(_, totals)| *totals != right);
+    wrong
+}
+
+/// Links and tables of the right sizes that are not sound.
+pub fn unsound(random: &mut Random, desk: &Desk) -> (Vec<Link>, Tables) {
+    loop {
+        let (mut links, mut held) = (desk.links.clone(), tables::of(desk));
+        damage(random, &mut links, &mut held);
+        if tables::read(&links, &held) == Err(3) {
+            return (links, held);
+        }
+    }
+}
+
+/// Tables of a desk with one change in its guard, clock or bookings that mostly breaks a rule, and what was changed. Events,
+/// free figures and totals follow the change, so that only the rule itself can tell; an oversold figure is wrapped around or 0.
 pub fn forged(random: &mut Random, desk: &Desk) -> (Tables, &'static str) {
     let mut desk = desk.clone();
     let what = forge(random, &mut desk);
@@ -187,16 +255,27 @@ fn changed(random: &mut Random, what: &str, figure: &mut u32) -> String {
 
 /// Gives a table, or the list of links, another size than the stated one.
 pub fn resize(random: &mut Random, links: &mut Vec<Link>, held: &mut Tables) {
-    let table = match random.below(5) {
-        0 => &mut held.events,
-        1 => &mut held.free,
-        2 => &mut held.book,
-        3 => return links.clear(),
-        _ => return links.resize(LINKS + 1 + random.below(3) as usize, links[0]),
-    };
+    match random.below(6) {
+        0 => resize_table(random, &mut held.events),
+        1 => resize_table(random, &mut held.free),
+        2 => resize_table(random, &mut held.book),
+        3 => resize_table(random, &mut held.totals),
+        4 => links.clear(),
+        _ => links.resize(LINKS + 1 + random.below(3) as usize, links[0]),
+    }
+}
+
+fn resize_table<T: Clone + Default>(random: &mut Random, table: &mut Vec<T>) {
     let size = table.len();
     let other = [0, size - 1, size + 1, size / 2, 2 * size][random.below(5) as usize];
-    table.resize(other, 0);
+    table.resize(other, T::default());
+}
+
+/// Gives a table another length, and says so.
+fn change_length<T: Clone + Default>(random: &mut Random, name: &str, table: &mut Vec<T>) -> String {
+    let length = other_length(random, table.len());
+    table.resize(length, T::default());
+    format!("{length} figures of the {name}")
 }
 
 fn other_length(random: &mut Random, length: usize) -> usize {

@@ -33,6 +33,14 @@ struct Shown {
     free: u32,
 }
 
+/// What a question for sold work hands back.
+#[repr(C)]
+#[derive(Clone, Copy)]
+struct Sold {
+    refusal: u32,
+    work: u64,
+}
+
 /// Declares calls over a desk that is lent for writing (`mut`) or for reading (`const`), with what they are asked behind it.
 macro_rules! calls {
     ($(fn $name:ident($lent:tt $(, $asked:ident: $type:ty)*) -> $answer:ty;)*) => {
@@ -46,7 +54,9 @@ macro_rules! calls {
                 free: *$lent u32,
                 free_count: usize,
                 book: *$lent u32,
-                book_count: usize
+                book_count: usize,
+                totals: *$lent u64,
+                total_count: usize
                 $(, $asked: $type)*
             ) -> $answer;)*
         }
@@ -61,15 +71,17 @@ calls! {
     fn gcr_cancel(mut, number: u32) -> u32;
     fn gcr_move_clock(mut, minute: u32) -> u32;
     fn gcr_show(const, link: u32, minute: u32) -> Shown;
+    fn gcr_sold_work(const, link: u32) -> Sold;
 }
 
 /// Lends a desk to a call that writes it.
 macro_rules! writing {
     ($name:ident, $links:expr, $t:expr $(, $asked:expr)*) => {{
         let (l, t): (&[Link], &mut Tables) = ($links, $t);
-        let (e, f, b) = (&mut t.events, &mut t.free, &mut t.book);
-        let (ep, fp, bp) = (e.as_mut_ptr(), f.as_mut_ptr(), b.as_mut_ptr());
-        unsafe { $name(&mut t.head, l.as_ptr(), l.len(), ep, e.len(), fp, f.len(), bp, b.len() $(, $asked)*) }
+        let (e, f, b, w) = (&mut t.events, &mut t.free, &mut t.book, &mut t.totals);
+        let (ep, fp, bp, wp) = (e.as_mut_ptr(), f.as_mut_ptr(), b.as_mut_ptr(), w.as_mut_ptr());
+        let (el, fl, bl, wl) = (e.len(), f.len(), b.len(), w.len());
+        unsafe { $name(&mut t.head, l.as_ptr(), l.len(), ep, el, fp, fl, bp, bl, wp, wl $(, $asked)*) }
     }};
 }
 
@@ -77,9 +89,10 @@ macro_rules! writing {
 macro_rules! reading {
     ($name:ident, $links:expr, $t:expr $(, $asked:expr)*) => {{
         let (l, t): (&[Link], &Tables) = ($links, $t);
-        let (e, f, b) = (&t.events, &t.free, &t.book);
-        let (ep, fp, bp) = (e.as_ptr(), f.as_ptr(), b.as_ptr());
-        unsafe { $name(&t.head, l.as_ptr(), l.len(), ep, e.len(), fp, f.len(), bp, b.len() $(, $asked)*) }
+        let (e, f, b, w) = (&t.events, &t.free, &t.book, &t.totals);
+        let (ep, fp, bp, wp) = (e.as_ptr(), f.as_ptr(), b.as_ptr(), w.as_ptr());
+        let (el, fl, bl, wl) = (e.len(), f.len(), b.len(), w.len());
+        unsafe { $name(&t.head, l.as_ptr(), l.len(), ep, el, fp, fl, bp, bl, wp, wl $(, $asked)*) }
     }};
 }
 
@@ -122,6 +135,15 @@ pub fn show(links: &[Link], t: &Tables, link: u32, minute: u32) -> Result<u32, u
     Err(shown.refusal)
 }
 
+pub fn sold_work(links: &[Link], t: &Tables, link: u32) -> Result<u64, u32> {
+    let sold = reading!(gcr_sold_work, links, t, link);
+    if sold.refusal == 0 {
+        return Ok(sold.work);
+    }
+    assert_eq!(sold.work, 0, "a refused question tells work");
+    Err(sold.refusal)
+}
+
 /// A desk just set up with the links and the guard of another, on tables that held anything.
 pub fn fresh(desk: &Desk, random: &mut Random) -> Tables {
     let mut held = Tables::filled_with(random.next() as u32);
@@ -152,6 +174,7 @@ fn try_answer(links: &[Link], tables: &mut Tables, call: &Call) -> Result<Answer
             Answer::Moved
         }
         Call::Show { link, minute } => Answer::Shown(show(links, tables, *link, *minute)?),
+        Call::Sold { link } => Answer::Sold(sold_work(links, tables, *link)?),
     })
 }
 

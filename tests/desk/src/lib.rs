@@ -13,6 +13,7 @@ pub mod plain;
 pub mod program;
 pub mod sessions;
 pub mod tables;
+pub mod totals;
 
 pub use support::{Link, Request};
 
@@ -28,6 +29,8 @@ pub const LIST_FIGURES: usize = 2 * EVENTS;
 pub const ROW: usize = 64;
 /// Figures of a place of the book: number, start, duration, bandwidth, count of links, and the path.
 pub const PLACE: usize = 36;
+/// A total for each link that there can be.
+pub const TOTALS: usize = LINKS;
 pub const MAX_NUMBER: u32 = 16_383;
 pub const MAX_CAPACITY: u32 = 1_000_000;
 pub const MAX_BANDWIDTH: u32 = 1_000_000;

@@ -135,7 +135,9 @@ pub fn order_bytes(call: &Call) -> [u8; ORDER_BYTES] {
         Call::Cancel(number) => (2, *number, Request::default()),
         Call::MoveClock(minute) => (3, 0, Request { earliest: *minute, ..Request::default() }),
         Call::Offer(request) => (4, 0, *request),
-        Call::SetUp { .. } | Call::List(..) | Call::Show { .. } => panic!("no order asks for {call:?}"),
+        Call::SetUp { .. } | Call::List(..) | Call::Show { .. } | Call::Sold { .. } => {
+            panic!("no order asks for {call:?}")
+        }
     };
     let Request { from, to, bandwidth, duration, earliest, latest } = request;
     let ends_and_size = [(from, 5), (to, 5), (bandwidth, 20), (duration, 20)];

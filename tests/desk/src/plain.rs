@@ -1,5 +1,6 @@
-//! The independent desk: a link list, a guard, a clock and a list of bookings, and the seven calls with their checks in the
-//! order of documents 01 and 02. It keeps no table: a residual bandwidth is the capacity less what the bookings hold.
+//! The independent desk: a link list, a guard, a clock and a list of bookings, and the eight calls with their checks in the
+//! order of documents 01 and 02. It keeps no table: a residual bandwidth is the capacity less what the bookings hold, and sold
+//! work is added up from the bookings.
 
 use crate::{Link, Refused, Request};
 use crate::{BOOKINGS, LINKS, LIST_FIGURES, NODES, PATH_LINKS};
@@ -17,6 +18,11 @@ pub struct Booking {
 impl Booking {
     pub fn end(&self) -> u32 {
         self.start + self.duration
+    }
+
+    /// Bandwidth times duration, without the guard.
+    pub fn work(&self) -> u64 {
+        u64::from(self.bandwidth) * u64::from(self.duration)
     }
 }
 
@@ -39,6 +45,25 @@ pub enum Call {
     Cancel(u32),
     MoveClock(u32),
     Show { link: u32, minute: u32 },
+    Sold { link: u32 },
+}
+
+impl Call {
+    pub const KINDS: usize = 8;
+
+    /// Which of the calls it is, from 0.
+    pub fn kind(&self) -> usize {
+        match self {
+            Call::SetUp { .. } => 0,
+            Call::Book(..) => 1,
+            Call::Offer(_) => 2,
+            Call::List(..) => 3,
+            Call::Cancel(_) => 4,
+            Call::MoveClock(_) => 5,
+            Call::Show { .. } => 6,
+            Call::Sold { .. } => 7,
+        }
+    }
 }
 
 #[derive(Clone, Debug, PartialEq, Eq)]
@@ -50,6 +75,7 @@ pub enum Answer {
     Cancelled,
     Moved,
     Shown(u32),
+    Sold(u64),
     Refused(Refused),
 }
 
@@ -101,7 +127,7 @@ impl Desk {
         Ok(Desk { links: links.to_vec(), guard, clock: 0, bookings: Vec::new() })
     }
 
-    /// Runs any of the seven calls on sound tables of the right sizes: refusals 1 (but for the link list) and 3 don't occur.
+    /// Runs any of the eight calls on sound tables of the right sizes: refusals 1 (but for the link list) and 3 don't occur.
     pub fn answer(&mut self, call: &Call) -> Answer {
         self.try_answer(call).unwrap_or_else(Answer::Refused)
     }
@@ -124,6 +150,7 @@ impl Desk {
                 Answer::Moved
             }
             Call::Show { link, minute } => Answer::Shown(self.show(*link, *minute)?),
+            Call::Sold { link } => Answer::Sold(self.sold_work(*link)?),
         })
     }
 
@@ -196,6 +223,14 @@ impl Desk {
         Ok(self.residual(link, minute) as u32)
     }
 
+    /// Refuses 4.
+    pub fn sold_work(&self, link: u32) -> Result<u64, u32> {
+        if link as usize >= self.links.len() {
+            return Err(4);
+        }
+        Ok(self.total(link))
+    }
+
     pub fn stands(&self, number: u32) -> bool {
         self.bookings.iter().any(|booking| booking.number == number)
     }
@@ -223,6 +258,20 @@ impl Desk {
             booking.path.iter().for_each(|&link| row[link as usize] -= booking.bandwidth as i64);
         }
         row
+    }
+
+    /// The sold work of a link: that of the bookings whose path has it.
+    pub fn total(&self, link: u32) -> u64 {
+        self.bookings.iter().filter(|booking| booking.path.contains(&link)).map(Booking::work).sum()
+    }
+
+    /// The sold work of every link, added up booking by booking.
+    pub fn totals(&self) -> Vec<u64> {
+        let mut totals = vec![0; self.links.len()];
+        for booking in &self.bookings {
+            booking.path.iter().for_each(|&link| totals[link as usize] += booking.work());
+        }
+        totals
     }
 
     /// The clock and every later start and guarded end, each once, rising.

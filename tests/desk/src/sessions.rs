@@ -1,4 +1,4 @@
-//! Random sessions as the bytes of the program's input, and random histories of the seven calls as values.
+//! Random sessions as the bytes of the program's input, and random histories of the eight calls as values.
 
 use support::Random;
 

@@ -1,8 +1,8 @@
-//! The tables that document 01 prescribes for a plain desk, and its rule of soundness for any figures.
+//! The tables that documents 01 and 02 prescribe for a plain desk, and its rule of soundness for any figures.
 
 use crate::plain::{valid_link, valid_number, Booking, Desk};
 use crate::{Head, Link};
-use crate::{BOOKINGS, EVENTS, LINKS, PATH_LINKS, PLACE, ROW};
+use crate::{BOOKINGS, EVENTS, LINKS, PATH_LINKS, PLACE, ROW, TOTALS};
 use crate::{MAX_BANDWIDTH, MAX_DURATION, MAX_GUARD, MAX_MINUTE};
 
 #[derive(Clone, Debug, PartialEq, Eq)]
@@ -11,16 +11,18 @@ pub struct Tables {
     pub events: Vec<u32>,
     pub free: Vec<u32>,
     pub book: Vec<u32>,
+    pub totals: Vec<u64>,
 }
 
 impl Tables {
-    /// Tables of the right sizes, with the same figure everywhere.
+    /// Tables of the right sizes, with the same figure everywhere, and in both halves of each total.
     pub fn filled_with(figure: u32) -> Tables {
         Tables {
             head: Head { clock: figure, links: figure, bookings: figure, guard: figure },
             events: vec![figure; EVENTS],
             free: vec![figure; EVENTS * ROW],
             book: vec![figure; BOOKINGS * PLACE],
+            totals: vec![u64::from(figure) << 32 | u64::from(figure); TOTALS],
         }
     }
 }
@@ -49,13 +51,14 @@ pub fn written(desk: &Desk, figure: impl Fn(i64) -> u32) -> Tables {
         figures[..fields.len()].copy_from_slice(&fields);
         figures[fields.len()..][..booking.path.len()].copy_from_slice(&booking.path);
     }
+    tables.totals[..desk.links.len()].copy_from_slice(&desk.totals());
     tables
 }
 
 /// The desk that lent tables hold; 1 if a size is wrong, else 3 if they aren't sound.
 pub fn read(links: &[Link], tables: &Tables) -> Result<Desk, u32> {
-    let sizes = (tables.events.len(), tables.free.len(), tables.book.len());
-    if sizes != (EVENTS, EVENTS * ROW, BOOKINGS * PLACE) || links.is_empty() || links.len() > LINKS {
+    let sizes = (tables.events.len(), tables.free.len(), tables.book.len(), tables.totals.len());
+    if sizes != (EVENTS, EVENTS * ROW, BOOKINGS * PLACE, TOTALS) || links.is_empty() || links.len() > LINKS {
         return Err(1);
     }
     read_book(links, tables).filter(|desk| !oversold(desk) && of(desk) == *tables).ok_or(3)

@@ -4,13 +4,14 @@
 use desk_tests::break_offs;
 use desk_tests::calls::{bad_link, guard, list_size, long_guard, net, pick, style};
 use desk_tests::cases::cases;
-use desk_tests::damages::{damage, forged, other_guards, resize};
+use desk_tests::damages::{damage, forged, other_guards, resize, unsound, wrong_totals, WRONG_TOTALS};
 use desk_tests::exported::{self, fresh};
 use desk_tests::guards;
 use desk_tests::plain::{Answer, Call, Desk};
 use desk_tests::sessions::History;
 use desk_tests::tables::{self, Tables};
-use desk_tests::{listings, Link, Request, LIST_FIGURES, MAX_GUARD};
+use desk_tests::totals;
+use desk_tests::{listings, Link, Request, LINKS, LIST_FIGURES, MAX_GUARD};
 use support::{assert_enough, Random, Seed};
 
 const SEED: u64 = 0xDE5_C000;
@@ -43,6 +44,7 @@ fn the_worked_examples() {
 fn random_histories() {
     let (mut calls, mut sampled, mut counts) = (0u32, 0u32, Listings::default());
     let (mut guards, mut break_offs) = (guards::Counts::default(), break_offs::Counts::default());
+    let mut totals = totals::Counts::default();
     for seed in SEED.. {
         let (mut random, _seed) = (Random::new(seed), Seed(seed));
         let mut history = History::new(seed);
@@ -55,6 +57,10 @@ fn random_histories() {
             counts.add(&call, &answer);
             guards.add(&before, &call, &answer, &history.desk);
             break_offs.add(&before, &call, &answer);
+            totals.add(&before, &call, &answer, &history.desk);
+            if random.once_in(20) {
+                every_total(&history.desk, &mut held, &mut totals, &what);
+            }
             if random.once_in(10) {
                 let request = history.listed();
                 sampled += right_listing(&mut random, &history.desk, &mut held, &request, &what);
@@ -74,6 +80,7 @@ fn random_histories() {
     println!("calls by guard: {:?}", guards.by_guard);
     println!("{}", guards.of_calls());
     println!("{}", break_offs.told());
+    println!("{}", totals.told());
     let enough = [
         ("calls under each guard", *guards.by_guard.iter().min().expect("a guard"), 5_000),
         ("listed otherwise by a guard", guards.listed_otherwise, 1_000),
@@ -85,6 +92,7 @@ fn random_histories() {
     assert_enough(&enough, SEED);
     assert_enough(&guards.of_orders_enough(), SEED);
     assert_enough(&break_offs.enough(), SEED);
+    assert_enough(&totals.enough(), SEED);
 }
 
 /// How often the calls were listings, and what these answered.
@@ -108,6 +116,18 @@ impl Listings {
             _ => {}
         }
     }
+}
+
+/// Every link and the one behind them are asked for their sold work, which writes nothing.
+fn every_total(desk: &Desk, held: &mut Tables, counts: &mut totals::Counts, what: &str) {
+    for link in 0..=desk.links.len() as u32 {
+        let call = Call::Sold { link };
+        let answer = exported::answer(&desk.links, held, &call);
+        let expected = desk.sold_work(link).map_or_else(Answer::refused, Answer::Sold);
+        assert_eq!(answer, expected, "{what}: {call:?}");
+        counts.add(desk, &call, &answer, desk);
+    }
+    assert!(*held == tables::of(desk), "{what}: questions for sold work leave other tables");
 }
 
 /// A listing whose window may be too long to try every minute: it is refused as the independent desk refuses, or right where
@@ -162,13 +182,14 @@ fn any_call(random: &mut Random, desk: &Desk) -> Call {
         earliest: desk.clock,
         latest: desk.clock.saturating_add(random.below(20) as u32),
     };
-    match random.below(6) {
+    match random.below(7) {
         0 => Call::Book(random.within(1, 16_383) as u32, request),
         1 => Call::Offer(request),
         2 => Call::Cancel(number),
         3 => Call::MoveClock(desk.clock),
         4 if random.once_in(3) => Call::List(list_size(random), request),
         4 => Call::List(LIST_FIGURES, request),
+        5 => Call::Sold { link: random.within(0, desk.links.len() as u64) as u32 },
         _ => Call::Show { link: 0, minute: desk.clock },
     }
 }
@@ -232,6 +253,71 @@ fn damages_of_the_guard() {
     }
     println!("another guard: {with_bookings} refused with bookings, {too_long} refused above 15, {sound} sound");
     assert!(sound > 1_000 && with_bookings > 10_000 && too_long > 10_000, "{sound}, {with_bookings}, {too_long}");
+}
+
+/// Totals with a mistake: refused 3 by every call, or 13 for a list of another length.
+#[test]
+fn damages_of_the_totals() {
+    let mut random = Random::new(SEED + 3);
+    let mut kinds = std::collections::BTreeMap::new();
+    for seed in SEED..SEED + 200 {
+        let _seed = Seed(seed);
+        let mut history = History::new(seed);
+        for step in 0..30 {
+            history.step();
+            let desk = &history.desk;
+            for (what, totals) in wrong_totals(&mut random, desk) {
+                let mut held = Tables { totals, ..tables::of(desk) };
+                let call = any_call(&mut random, desk);
+                let refusal = judged(&desk.links, &mut held, &call, &format!("seed {seed:#x}, step {step}, {what}"));
+                assert_ne!(refusal, 0, "seed {seed:#x}, step {step}, {what}: {call:?}");
+                *kinds.entry(what).or_insert(0) += (refusal == 3) as u32;
+            }
+        }
+    }
+    println!("{} wrong totals refused 3: {kinds:?}", kinds.values().sum::<u32>());
+    assert!(kinds.len() == WRONG_TOTALS && kinds.values().all(|&count| count >= 50), "{kinds:?}");
+}
+
+/// The refusals of a question for sold work, in the order in which they are tried.
+const SOLD_REFUSALS: [u32; 3] = [1, 3, 4];
+
+/// Every set of reasons to refuse a question for sold work: the first reason is answered, and nothing is written.
+#[test]
+fn sold_work_is_refused_in_order() {
+    let mut by_refusal = [0u32; 5];
+    for seed in SEED..SEED + 500 {
+        let (mut random, _seed) = (Random::new(seed), Seed(seed));
+        let mut history = History::new(seed);
+        (0..1 + seed % 60).for_each(|_| {
+            history.step();
+        });
+        let desk = &history.desk;
+        for reasons in 0..1u32 << SOLD_REFUSALS.len() {
+            let has = |refusal| {
+                SOLD_REFUSALS.iter().position(|&one: &u32| one == refusal).is_some_and(|i| reasons >> i & 1 == 1)
+            };
+            let (mut links, mut held) = (desk.links.clone(), tables::of(desk));
+            if has(3) {
+                (links, held) = unsound(&mut random, desk);
+            }
+            if has(1) {
+                resize(&mut random, &mut links, &mut held);
+            }
+            let count = desk.links.len() as u32;
+            let off_the_list = *pick(&mut random, &[count, LINKS as u32, 1_000, u32::MAX]);
+            let link = if has(4) { off_the_list } else { random.below(count as u64) as u32 };
+            let what = format!("seed {seed:#x}, reasons {reasons:#b}, link {link} of {count}");
+            let before = held.clone();
+            let refusal = exported::sold_work(&links, &held, link).err().unwrap_or(0);
+            let expected = SOLD_REFUSALS.into_iter().find(|&refusal| has(refusal)).unwrap_or(0);
+            assert_eq!(refusal, expected, "{what}");
+            assert!(held == before, "{what}: the question writes");
+            by_refusal[refusal as usize] += 1;
+        }
+    }
+    let [accepted, sizes, _, unsound, links] = by_refusal;
+    println!("sold work: {sizes} refused 1, {unsound} refused 3, {links} refused 4, {accepted} accepted");
 }
 
 /// The refusals of a set-up, in the order in which they are tried.

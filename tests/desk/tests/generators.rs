@@ -1,7 +1,7 @@
 //! What the generated sessions, histories and damages contain, and that the tables of a history are sound.
 
 use desk_tests::break_offs;
-use desk_tests::damages::{damage, forged, other_guards};
+use desk_tests::damages::{damage, forged, other_guards, wrong_totals, WRONG_TOTALS};
 use desk_tests::guards;
 use desk_tests::lines::{answer, line, opening, output, read_order};
 use desk_tests::listings::{self, KINDS};
@@ -176,7 +176,7 @@ fn the_same_seed_gives_the_same_session() {
 
 #[test]
 fn tables_of_histories_are_sound_and_read_back() {
-    let mut calls = [0; 7];
+    let mut calls = [0; Call::KINDS];
     let mut refused = [0; 14];
     let mut guards = guards::Counts::default();
     for seed in SEED..SEED + 160 {
@@ -189,16 +189,7 @@ fn tables_of_histories_are_sound_and_read_back() {
             let tables = tables::of(&history.desk);
             let read = tables::read(&history.desk.links, &tables);
             assert_eq!(read.as_ref().map(tables::of), Ok(tables), "seed {seed:#x}, step {step}: {call:?}");
-            let kind = match call {
-                Call::SetUp { .. } => 0,
-                Call::Book(..) => 1,
-                Call::Offer(_) => 2,
-                Call::Cancel(_) => 3,
-                Call::MoveClock(_) => 4,
-                Call::Show { .. } => 5,
-                Call::List(..) => 6,
-            };
-            calls[kind] += 1;
+            calls[call.kind()] += 1;
             if let Answer::Refused(Refused { number, .. }) = answer {
                 refused[number as usize] += 1;
             }
@@ -207,6 +198,8 @@ fn tables_of_histories_are_sound_and_read_back() {
                     (0..history.desk.links.len() as u32).map(|link| history.desk.residual(link, minute)).collect();
                 assert_eq!(history.desk.residuals(minute), literal, "seed {seed:#x}, step {step}");
             }
+            let literal: Vec<u64> = (0..history.desk.links.len() as u32).map(|link| history.desk.total(link)).collect();
+            assert_eq!(history.desk.totals(), literal, "seed {seed:#x}, step {step}");
         }
     }
     println!("calls by kind: {calls:?}, refusals: {refused:?}");
@@ -305,6 +298,27 @@ fn another_guard_is_sound_without_bookings_alone() {
     }
     println!("another guard: {with_bookings} refused 3 with bookings, {too_long} refused 3 above 15, {sound} sound");
     assert!(sound > 10_000 && with_bookings > 50_000 && too_long > 10_000, "{sound}, {with_bookings}, {too_long}");
+}
+
+/// Any mistake in the totals is enough.
+#[test]
+fn a_wrong_total_is_unsound() {
+    let mut kinds = std::collections::BTreeMap::new();
+    let mut random = Random::new(SEED);
+    for seed in SEED..SEED + 200 {
+        let mut history = History::new(seed);
+        for step in 0..30 {
+            history.step();
+            let desk = &history.desk;
+            for (what, totals) in wrong_totals(&mut random, desk) {
+                let read = tables::read(&desk.links, &Tables { totals, ..tables::of(desk) });
+                assert_eq!(read, Err(3), "seed {seed:#x}, step {step}: {what}");
+                *kinds.entry(what).or_insert(0) += 1;
+            }
+        }
+    }
+    println!("refused 3: {kinds:?}");
+    assert!(kinds.len() == WRONG_TOTALS && kinds.values().all(|&count| count >= 50), "{kinds:?}");
 }
 
 /// Of forged tables about one in four is sound. The others are refused 3, some for nothing but an oversold link.

@@ -3,7 +3,7 @@
 
 use desk_tests::break_offs;
 use desk_tests::calls::list_size;
-use desk_tests::damages::{damage, resize};
+use desk_tests::damages::{resize, unsound};
 use desk_tests::exported;
 use desk_tests::guards::GUARDS;
 use desk_tests::listings::{self, KINDS};
@@ -201,17 +201,6 @@ fn the_first_reason_is_answered() {
         assert!(by_refusal[refusal as usize] >= 400, "{by_refusal:?}");
     }
     println!("{} accepted", by_refusal[0]);
-}
-
-/// Links and tables of the right sizes that are not sound.
-fn unsound(random: &mut Random, desk: &Desk) -> (Vec<Link>, Tables) {
-    loop {
-        let (mut links, mut held) = (desk.links.clone(), tables::of(desk));
-        damage(random, &mut links, &mut held);
-        if tables::read(&links, &held) == Err(3) {
-            return (links, held);
-        }
-    }
 }
 
 fn another_length(random: &mut Random) -> usize {

@@ -30,8 +30,10 @@ fn cases_by_hand() {
         for (place, (call, answer)) in case.steps.iter().enumerate() {
             let before = desk.clone();
             assert_eq!(desk.answer(call), *answer, "{}, step {place}: {call:?}", case.name);
-            let unchanged =
-                matches!(answer, Answer::Refused(_) | Answer::Offered(_) | Answer::Listed(_) | Answer::Shown(_));
+            let unchanged = matches!(
+                answer,
+                Answer::Refused(_) | Answer::Offered(_) | Answer::Listed(_) | Answer::Shown(_) | Answer::Sold(_)
+            );
             assert!(!unchanged || desk == before, "{}, step {place}: {call:?} changes the desk", case.name);
         }
     }
@@ -186,7 +188,10 @@ fn the_session_s_tables() {
     for (place, figures) in places.iter().enumerate() {
         assert_eq!(tables.book[place * 36..][..8], *figures, "place {place}");
     }
+    assert_eq!(tables.totals[..4], [50, 50, 40, 0]);
+    assert_eq!(tables.totals.iter().filter(|&&total| total != 0).count(), 3);
     assert_eq!((tables.events.len(), tables.free.len(), tables.book.len()), (129, 8_256, 2_304));
+    assert_eq!(tables.totals.len(), 64);
     assert_eq!(tables::read(&case.links, &tables).map(|read| tables::of(&read)), Ok(tables));
 }
 
@@ -208,6 +213,7 @@ fn tables_under_a_guard() {
     for (place, figures) in places.iter().enumerate() {
         assert_eq!(tables.book[place * 36..][..6], *figures, "place {place}");
     }
+    assert_eq!(tables.totals[..2], [7 * 6 + 4 * 2, 0]);
     assert_eq!(tables::read(&links, &tables), Ok(desk));
 }
 

@@ -5,7 +5,7 @@ use std::io::{Read, Write};
 use desk_bench::fast::{self, Start, Tables};
 use desk_tests::lines::{read_link, read_order};
 use desk_tests::plain::Call;
-use desk_tests::{Head, Link, Refused, BOOKINGS, EVENTS, LINKS, PLACE, ROW};
+use desk_tests::{Head, Link, Refused, BOOKINGS, EVENTS, LINKS, PLACE, ROW, TOTALS};
 
 fn main() -> std::io::Result<()> {
     let mut input = Vec::new();
@@ -17,8 +17,9 @@ fn main() -> std::io::Result<()> {
 
 fn run(input: &[u8], out: &mut Vec<u8>) -> std::io::Result<()> {
     let (mut head, mut events, mut free) = (Head::default(), [0; EVENTS], [0; EVENTS * ROW]);
-    let mut book = [0; BOOKINGS * PLACE];
-    let mut tables = Tables { head: &mut head, events: &mut events, free: &mut free, book: &mut book };
+    let (mut book, mut totals) = ([0; BOOKINGS * PLACE], [0; TOTALS]);
+    let mut tables =
+        Tables { head: &mut head, events: &mut events, free: &mut free, book: &mut book, totals: &mut totals };
     let opened = read_links(input).and_then(|(links, guard, orders)| {
         fast::set_up(&links, &mut tables, guard)?;
         Ok((links, orders))
@@ -71,7 +72,9 @@ fn order(links: &[Link], tables: &mut Tables, piece: &[u8], out: &mut Vec<u8>) -
             fast::move_clock(links, tables, minute)?;
             put(out, format_args!("clock {minute}\n"));
         }
-        Call::SetUp { .. } | Call::List(..) | Call::Show { .. } => unreachable!("no order asks for this"),
+        Call::SetUp { .. } | Call::List(..) | Call::Show { .. } | Call::Sold { .. } => {
+            unreachable!("no order asks for this")
+        }
     }
     Ok(())
 }
