@@ -31,9 +31,10 @@ use Rattle.rebuild.proofs.Added.{CanAdd, Adds, place_right, place_room, added}
 use Rattle.rebuild.proofs.RebuiltBook.{can_rebuild, events_anew, free_anew, totals_anew}
 use Rattle.changes.proofs.InOrder.{slot_inside, book_entered}
 use Rattle.rules.proofs.Fine.{sizes, book_obeys, links_are, events_are, free_are, totals_are}
+use Rattle.rules.proofs.Totals.{all_light}
 use Rattle.totals.specs.Totals.{place_work, more_along, totals_of, AtMost, WorkRight}
 use Rattle.totals.proofs.Totals.{more_totals, totals_most}
-use Rattle.totals.proofs.Kept.{table_is, all_light, work_right}
+use Rattle.totals.proofs.Kept.{table_is, work_right}
 
 -- a right head and four right tables
 tables_are : (links : List Link) (p : Plain) {head : Head} {es t book totals : List ℕ} → head ≡ head_of links p → es ≡ event_table p → t ≡ free_table links p → book ≡ book_table p → totals ≡ totals_table links p

@@ -10,18 +10,20 @@ use Rattle.units.specs.declared.Link.{Link}
 use Rattle.units.specs.Limits.{most_links, most_totals}
 use Rattle.units.specs.Lists.{Within, sum, count_from}
 use Rattle.units.proofs.Tests.{less_than}
-use Rattle.units.proofs.Padded.{length_count, length_padded, count_at, padded_past}
 use Rattle.histories.specs.Kinds as kinds
 use Rattle.histories.specs.Histories.{counted}
 use Rattle.histories.specs.Demands as demands
+use Rattle.histories.proofs.Demand3.{followed}
 use Rattle.rules.specs.Plain.{empty, sold_work}
 use Rattle.rules.specs.Calls.{sold, ask, shows, refuse, own_checks}
 use Rattle.rules.specs.Tables.{tables, totals_table}
-use Rattle.rules.specs.Desk.{answer, outcome}
+use Rattle.rules.specs.Desk.{bandwidth_desk, answer, outcome}
 use Rattle.rules.proofs.Checks.{passed_answer}
+use Rattle.rules.proofs.Totals.{total_of, unused_total, length_totals, sold_most}
 use Rattle.rules.proofs.Step.{set_up_passed}
 use Rattle.demands.specs.Demands.{Desk, Demand3}
 use Rattle.demands.specs.Selling.{Moment, now, plain, SellsAsBooked}
+use Rattle.demands.proofs.Lawful.{lawful, obeyed}
 use Rattle.demands.proofs.Demand3.{demand3}
 
 -- ---- any desk with demand 3
@@ -32,9 +34,7 @@ module _ (desk : Desk) (d : Demand3 desk) {links : List Link} (h : Moment desk l
   totals_are = ap (λ t. t.totals) (d.counts links h).tables_are
 
   pub kept : (l : ℕ) → l < length links → get_or (now desk h).totals l 0 ≡ sold_work (plain desk h) l
-  kept l b =
-      let z : 0 + l ≡ l = omega arith in
-      ap (λ (t : List ℕ). get_or t l 0) totals_are ∙ count_at 0 (sold_work (plain desk h)) _ 0 (length links) l b ∙ ap (sold_work (plain desk h)) z
+  kept l b = ap (λ (t : List ℕ). get_or t l 0) totals_are ∙ total_of links (plain desk h) l b
 
   total_answer : (l : ℕ) → l < length links → answer links (plain desk h) (sold l) ≡ shows (sold_work (plain desk h) l)
   unfolding kinds.answer
@@ -49,20 +49,11 @@ module _ {links : List Link} (h : Moment outcome links) where
   count_right : Within 1 most_links (length links)
   count_right = (set_up_passed links h.before h.start h.accepted).0
 
-  first : List ℕ
-  first = map (sold_work (plain outcome h)) (count_from 0 (length links))
-
-  long : length first ≡ length links
-  unfolding first
-  long = length-map (count_from 0 (length links)) (sold_work (plain outcome h)) ∙ length_count 0 (length links)
-
   sized : length (now outcome h).totals ≡ most_totals
-  unfolding first
-  sized = ap length (totals_are outcome demand3 h) ∙ length_padded 0 most_totals first (omega (arith, long, count_right.1))
+  sized = ap length (totals_are outcome demand3 h) ∙ length_totals links (plain outcome h) count_right.1
 
   unused : (l : ℕ) → length links ≤ l → get_or (now outcome h).totals l 0 ≡ 0
-  unfolding first
-  unused l b = ap (λ (t : List ℕ). get_or t l 0) (totals_are outcome demand3 h) ∙ padded_past 0 most_totals first l (omega (arith, long))
+  unused l b = ap (λ (t : List ℕ). get_or t l 0) (totals_are outcome demand3 h) ∙ unused_total links (plain outcome h) l b
 
   empty_at_first : h.calls ≡ [] → plain outcome h ≡ empty h.start
   unfolding demands.plain counted
@@ -88,3 +79,7 @@ sells_as_booked = record {
   unused = λ links h. unused h;
   set_up_empties = λ links h. zeros_at_first h;
 }
+
+-- 64 bits are enough, whatever was booked
+pub sold_at_most : {links : List Link} (h : Moment outcome links) (l : ℕ) → sold_work (plain outcome h) l ≤ 33638400000000
+sold_at_most {links} h l = sold_most links (plain outcome h) (obeyed links (plain outcome h) (followed bandwidth_desk lawful links h).1) l

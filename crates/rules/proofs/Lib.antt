@@ -1,6 +1,7 @@
 -- The laws of the rules, on which the demands and the code rest.
 pub mod Feeding
 pub mod Uses
+pub mod Totals
 pub mod Book
 pub mod Checks
 pub mod Tests

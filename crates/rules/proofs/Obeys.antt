@@ -21,6 +21,7 @@ use Rattle.rules.specs.Plain.{Booking, Plain, until, times, taken, work, sold_wo
 use Rattle.rules.specs.Calls.{numbers}
 use Rattle.rules.specs.Tables.{Tables, tables, held, place, booking_at, by_number, events_of, booking_ok, none_oversold, sized, sound_with, sound}
 use Rattle.rules.specs.Sound.{LinkRight, BookingRight, Obeys}
+use Rattle.rules.proofs.Totals.{length_totals}
 use Rattle.rules.proofs.Uses.{all_times, taken_permuted, taken_past, taken_changes}
 use Rattle.rules.proofs.Book.{by_number_permuted, by_number_is, by_number_rises, Short, place_rows, held_tables}
 use Rattle.rules.proofs.Tests.{links_tell, booking_tells, none_oversold_tells, same_tells, sized_tells}
@@ -197,5 +198,5 @@ module _ (links : List Link) (p : Plain) (o : Obeys links p) where
       free_right = length_table (length links) (free links p) count.1 most_events (events_of p) few_events;
       book_right = length_padded 0 (most_bookings * place_size) (flatten (map place (by_number p.bookings)))
           (rw (length_rows place place_size (by_number p.bookings) (place_rows (by_number p.bookings) (all_permuted Short (Permᴰ.symm (by_number_is p.bookings)) all_short)), length_permuted (by_number_is p.bookings)) (let few = o.not_too_many in omega arith));
-      totals_right = length_padded 0 most_totals (map (sold_work p) (count_from 0 (length links))) (rw (length-map, length_count) count.1);
+      totals_right = length_totals links p count.1;
     })

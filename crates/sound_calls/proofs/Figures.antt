@@ -1,16 +1,15 @@
 -- On fine tables the figure that is kept for a link and a minute is what the plain book leaves free, and the total of a link its sold work.
 use mathlib.Core.List.{List}
-use mathlib.Core.Path.{◌≡◌, ap, ◌∙◌}
-use Prim.Native.Nat.{ℕ, ◌+◌, ◌≤◌, ◌<◌}
-use native.Mathlib.Omega.{arith}
+use mathlib.Core.Path.{◌≡◌}
+use Prim.Native.Nat.{ℕ, ◌≤◌, ◌<◌}
 use lib.ListN.{length, get_or}
 use Rattle.units.specs.Limits.{most_events}
-use Rattle.units.proofs.Padded.{count_at}
 use Rattle.free_table.specs.Figures.{kept}
 use Rattle.free_table.proofs.Figures.{kept_figure}
 use Rattle.units.specs.declared.Link.{Link}
 use Rattle.rules.specs.Plain.{free, sold_work}
 use Rattle.rules.specs.Tables.{Tables, held, Fine}
+use Rattle.rules.proofs.Totals.{total_of}
 use Rattle.rules.proofs.Uses.{all_times, free_changes}
 use Rattle.rules.proofs.Fine.{sizes, events_are, free_are, totals_are}
 
@@ -23,4 +22,4 @@ module _ (links : List Link) (t : Tables) (f : Fine links t) where
 
   -- and its total the sum over the plain book
   pub total_is : (l : ℕ) → l < length links → get_or t.totals l 0 ≡ sold_work (held t) l
-  total_is l h = rw (totals_are f) (count_at 0 (sold_work (held t)) _ 0 (length links) l h ∙ (let z : 0 + l ≡ l = omega arith in ap (sold_work (held t)) z))
+  total_is l h = rw (totals_are f) (total_of links (held t) l h)

@@ -13,6 +13,7 @@ use Rattle.units.specs.Limits.{most_totals, most_bookings}
 use Rattle.units.specs.Lists.{if_so, member, All, Distinct}
 use Rattle.units.specs.Work.{most_work}
 use Rattle.units.proofs.Tests.{Order, less, same, more, order, absent_test}
+use Rattle.rules.proofs.Totals.{if_so_most}
 use Rattle.totals.specs.Totals.{more_along, AtMost}
 
 -- adding from place i of the path on
@@ -66,10 +67,6 @@ pub record Adding (x : ℕ) (path before : List ℕ) (i : ℕ) (t : List ℕ) : 
   pub rest : more_along x path before ≡ more_along x (drop i path) t
   pub sized : length t ≡ most_totals
   pub few : AtMost (most_bookings + i) t
-
-pub if_so_most : (u : Bool) (x : ℕ) → if_so u x ≤ x
-if_so_most true x = omega arith
-if_so_most false x = omega arith
 
 module _ {x : ℕ} {path before : List ℕ} {i : ℕ} {t : List ℕ} (a : Adding x path before i t) (light : x ≤ most_work) (inside : i < length path) (there : get_or path i 0 < most_totals) where
   pub added_one : Adding x path before (i + 1) (set t (get_or path i 0) (get_or t (get_or path i 0) 0 + x))

@@ -21,8 +21,9 @@ use Rattle.book.specs.Places.{booking_in, place_path}
 use Rattle.rules.specs.Plain.{Booking, Plain, graph}
 use Rattle.rules.specs.Tables.{booking_of, booking_at, held_by, totals_table}
 use Rattle.rules.specs.Sound.{BookingRight}
+use Rattle.rules.proofs.Totals.{total_of, unused_total, length_totals, light}
 use Rattle.totals.specs.Totals.{totals_of, WorkRight, CanTotal}
-use Rattle.totals.proofs.Totals.{total, length_totals, total_at, Light}
+use Rattle.totals.proofs.Totals.{total, length_sums, sum_at}
 
 module _ (links : List Link) (p : Plain) (few : length links ≤ most_links) where
   -- a right booking sells nothing of a link that isn't on the list
@@ -35,23 +36,11 @@ module _ (links : List Link) (p : Plain) (few : length links ≤ most_links) whe
 
   pub table_is : All (BookingRight links p) p.bookings → totals_of p.bookings ≡ totals_table links p
   table_is a =
-      ext_get_or 0 (totals_of p.bookings) (totals_table links p) (length_totals p.bookings ∙ sym (length_padded 0 most_totals first (omega (arith, long))))
-      (λ l inside. total_at p.bookings l (omega (arith, length_totals p.bookings)) ∙ elim (dec_lt l (length links)) [
-        | yes h ↦ sym (count_at 0 (total p.bookings) _ 0 (length links) l h ∙ (let z : 0 + l ≡ l = omega arith in ap (total p.bookings) z))
-        | no h ↦ total_past p.bookings a l (omega arith) ∙ sym (padded_past 0 most_totals first l (omega (arith, long)))
+      ext_get_or 0 (totals_of p.bookings) (totals_table links p) (length_sums p.bookings ∙ sym (length_totals links p few))
+      (λ l inside. sum_at p.bookings l (omega (arith, length_sums p.bookings)) ∙ elim (dec_lt l (length links)) [
+        | yes h ↦ sym (total_of links p l h)
+        | no h ↦ total_past p.bookings a l (omega arith) ∙ sym (unused_total links p l (omega arith))
       ])
-    where
-      first : List ℕ
-      first = map (total p.bookings) (count_from 0 (length links))
-
-      long : length first ≡ length links
-      long = length-map (count_from 0 (length links)) (total p.bookings) ∙ length_count 0 (length links)
-
-pub light : (links : List Link) (p : Plain) (b : Booking) → BookingRight links p b → Light b
-light links p b r = mul-le-mul r.bandwidth_right.1 r.duration_right.1
-
-pub all_light : (links : List Link) (p : Plain) (bs : List Booking) → All (BookingRight links p) bs → All Light bs
-all_light links p = all_map (BookingRight links p) Light (light links p)
 
 -- a place with a right booking
 pub work_right : (links : List Link) (p : Plain) → length links ≤ most_links → (b : Place) → b.count ≤ most_hops → BookingRight links p (booking_of b) → WorkRight b

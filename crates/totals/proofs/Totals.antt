@@ -1,4 +1,4 @@
--- The totals of a list of bookings: one booking more, the most that they can be, and the table that holds them.
+-- The totals of a list of bookings: one booking more, the most that they can be, and those of the places of a book.
 use mathlib.Core.Path.{◌≡◌, sym, ap, ◌∙◌}
 use mathlib.Core.List.{List, [], ◌∷◌, map, append-nil}
 use Prim.Native.Nat.{ℕ, zero, suc, ◌+◌, ◌-◌, ◌*◌, ◌≤◌, ◌<◌}
@@ -16,44 +16,44 @@ use Rattle.book.specs.Places.{booking_in, place_path}
 use Rattle.rules.specs.Plain.{Booking, work}
 use Rattle.rules.specs.Tables.{booking_of, booking_at, held_by}
 use Rattle.totals.specs.Totals.{place_work, more_along, totals_of, AtMost, WorkRight, CanTotal}
-use Rattle.totals.proofs.Along.{length_more, more_at, if_so_most}
+use Rattle.rules.proofs.Totals.{Light, sum_most}
+use Rattle.totals.proofs.Along.{length_more, more_at}
 
 -- the total of link l
 abbrev pub total : List Booking → ℕ → ℕ
 total bs l = sum (map (λ b. work b l) bs)
 
-pub length_totals : (bs : List Booking) → length (totals_of bs) ≡ most_totals
-length_totals bs = length-map (count_from 0 most_totals) (total bs) ∙ length_count 0 most_totals
+pub length_sums : (bs : List Booking) → length (totals_of bs) ≡ most_totals
+length_sums bs = length-map (count_from 0 most_totals) (total bs) ∙ length_count 0 most_totals
 
-pub total_at : (bs : List Booking) (l : ℕ) → l < most_totals → get_or (totals_of bs) l 0 ≡ total bs l
-total_at bs l h =
+pub sum_at : (bs : List Booking) (l : ℕ) → l < most_totals → get_or (totals_of bs) l 0 ≡ total bs l
+sum_at bs l h =
     ap (λ (t : List ℕ). get_or t l 0) (sym (append-nil (totals_of bs))) ∙ count_at 0 (total bs) [] 0 most_totals l h ∙ (let z : 0 + l ≡ l = omega arith in ap (total bs) z)
 
 -- ---- one booking more
 
 pub more_totals : (b : Place) → WorkRight b → (bs : List Booking) → more_along (place_work b) (place_path b) (totals_of bs) ≡ totals_of (booking_of b ∷ bs)
 unfolding sum
-more_totals b r bs =
-    ext_get_or 0 (more_along (place_work b) (place_path b) (totals_of bs)) (totals_of (booking_of b ∷ bs)) (length_more (place_work b) (place_path b) (totals_of bs) ∙ length_totals bs ∙ sym (length_totals (booking_of b ∷ bs)))
-    (λ l inside. let h : l < most_totals = omega (arith, length_more (place_work b) (place_path b) (totals_of bs), length_totals bs) in
-    more_at (place_work b) (place_path b) (totals_of bs) r.links_differ (rw length_totals r.links_right) l
-    ∙ rw (total_at bs l h, total_at (booking_of b ∷ bs) l h) (omega arith))
+more_totals b r bs = ext_get_or 0 more (totals_of (booking_of b ∷ bs)) (length_of_more ∙ sym (length_sums (booking_of b ∷ bs))) (λ l inside. at (omega (arith, length_of_more)))
+  where
+    more : List ℕ
+    more = more_along (place_work b) (place_path b) (totals_of bs)
+
+    length_of_more : length more ≡ most_totals
+    length_of_more = length_more (place_work b) (place_path b) (totals_of bs) ∙ length_sums bs
+
+    at : {l : ℕ} → l < most_totals → get_or more l 0 ≡ get_or (totals_of (booking_of b ∷ bs)) l 0
+    at {l} h =
+        more_at (place_work b) (place_path b) (totals_of bs) r.links_differ (rw length_sums r.links_right) l
+        ∙ rw (sum_at bs l h, sum_at (booking_of b ∷ bs) l h) (omega arith)
 
 -- ---- the most that they can be
 
-abbrev pub Light : Booking → Type 0
-Light b = b.terms.bandwidth * b.terms.duration ≤ most_work
-
-total_most : (bs : List Booking) → All Light bs → (l : ℕ) → total bs l ≤ length bs * most_work
-unfolding sum
-total_most [] a l = omega arith
-total_most (b ∷ bs) a l = omega (arith, if_so_most (member l b.grant.path) (b.terms.bandwidth * b.terms.duration), a.0, total_most bs a.1 l)
-
 pub totals_most : (bs : List Booking) → All Light bs → AtMost (length bs) (totals_of bs)
-totals_most bs a l = elim (dec_lt l most_totals) [ yes h ↦ rw (total_at bs l h) (total_most bs a l) | no h ↦ past (omega arith) ]
+totals_most bs a l = elim (dec_lt l most_totals) [ yes h ↦ rw (sum_at bs l h) (sum_most bs a l) | no h ↦ past (omega arith) ]
   where
     past : most_totals ≤ l → get_or (totals_of bs) l 0 ≤ length bs * most_work
-    past h = let none : get_or (totals_of bs) l 0 ≡ 0 = get_or-eq_default (totals_of bs) 0 (omega (arith, length_totals bs)) in omega arith
+    past h = let none : get_or (totals_of bs) l 0 ≡ 0 = get_or-eq_default (totals_of bs) 0 (omega (arith, length_sums bs)) in omega arith
 
 -- ---- the places from i on
 
@@ -73,10 +73,6 @@ module _ {head : Head} {book : List ℕ} (can : CanTotal head book) where
   pub none_from : totals_of (bookings_from head book head.bookings) ≡ replicate most_totals 0
   unfolding count_from sum
   none_from = let e : head.bookings - head.bookings ≡ 0 = omega arith in ap (λ k. totals_of (map (booking_at book) (count_from head.bookings k))) e
-
-  -- all of them
-  pub all_from : totals_of (bookings_from head book 0) ≡ totals_of (held_by head book).bookings
-  all_from = let e : head.bookings - 0 ≡ head.bookings = omega arith in ap (λ k. totals_of (map (booking_at book) (count_from 0 k))) e
 
   module _ (place : ℕ) (inside : place ≤ head.bookings) where
     pub few_from : AtMost most_bookings (totals_of (bookings_from head book place))
