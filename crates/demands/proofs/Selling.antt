@@ -1,14 +1,14 @@
 -- The desk sells as booked: its totals are those of the plain book, and it answers with them.
 use mathlib.Core.Path.{◌≡◌, refl, sym, ap, ◌∙◌}
-use mathlib.Core.List.{List, [], map}
-use Prim.Native.Nat.{ℕ, ◌+◌, ◌≤◌, ◌<◌}
+use mathlib.Core.List.{List, []}
+use Prim.Native.Nat.{ℕ, ◌≤◌, ◌<◌}
 use native.Mathlib.Decide.{dec_lt}
 use native.Mathlib.Omega.{arith}
-use lib.ListN.{length, get_or, replicate, length-map, length-replicate, get_or-replicate}
+use lib.ListN.{length, get_or, replicate, length-replicate, get_or-replicate}
 use lib.Seq.{ext_get_or}
 use Rattle.units.specs.declared.Link.{Link}
 use Rattle.units.specs.Limits.{most_links, most_totals}
-use Rattle.units.specs.Lists.{Within, sum, count_from}
+use Rattle.units.specs.Lists.{Within, sum}
 use Rattle.units.proofs.Tests.{less_than}
 use Rattle.histories.specs.Kinds as kinds
 use Rattle.histories.specs.Histories.{counted}

@@ -1,20 +1,18 @@
 -- The totals of a plain book that obeys the rules: the table that its desk keeps is that of its bookings, and each of its places can be added.
-use mathlib.Core.Path.{◌≡◌, refl, sym, ap, ◌∙◌}
-use mathlib.Core.List.{List, [], ◌∷◌, map}
+use mathlib.Core.Path.{◌≡◌, refl, sym, ◌∙◌}
+use mathlib.Core.List.{List, [], ◌∷◌}
 use mathlib.Core.Bool.{false}
-use Prim.Native.Nat.{ℕ, ◌+◌, ◌*◌, ◌≤◌, ◌<◌}
+use Prim.Native.Nat.{ℕ, ◌*◌, ◌≤◌, ◌<◌}
 use native.Mathlib.Decide.{dec_lt}
-use native.Mathlib.Nat.{mul-le-mul}
 use native.Mathlib.Omega.{arith}
-use lib.ListN.{length, length-map}
+use lib.ListN.{length}
 use lib.Seq.{ext_get_or}
 use Rattle.units.specs.declared.Link.{Link}
 use Rattle.units.specs.declared.Head.{Head}
 use Rattle.units.specs.Limits.{most_links, most_totals, most_hops, most_bookings, place_size}
-use Rattle.units.specs.Lists.{member, sum, count_from, All}
+use Rattle.units.specs.Lists.{member, sum, All}
 use Rattle.units.proofs.Tests.{absent_test}
 use Rattle.units.proofs.Parts.{all_map, all_at, counted_one}
-use Rattle.units.proofs.Padded.{length_count, length_padded, count_at, padded_past}
 use Rattle.path_search.proofs.Paths.{path_inside, path_distinct}
 use Rattle.book.specs.declared.Booking.{Booking as Place}
 use Rattle.book.specs.Places.{booking_in, place_path}

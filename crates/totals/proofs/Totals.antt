@@ -8,13 +8,13 @@ use lib.ListN.{length, get_or, replicate, length-map, get_or-eq_default}
 use lib.Seq.{ext_get_or}
 use Rattle.units.specs.declared.Head.{Head}
 use Rattle.units.specs.Limits.{most_totals, most_bookings}
-use Rattle.units.specs.Lists.{member, sum, count_from, All}
+use Rattle.units.specs.Lists.{sum, count_from, All}
 use Rattle.units.specs.Work.{most_work}
 use Rattle.units.proofs.Padded.{length_count, count_at}
 use Rattle.book.specs.declared.Booking.{Booking as Place}
 use Rattle.book.specs.Places.{booking_in, place_path}
 use Rattle.rules.specs.Plain.{Booking, work}
-use Rattle.rules.specs.Tables.{booking_of, booking_at, held_by}
+use Rattle.rules.specs.Tables.{booking_of, booking_at}
 use Rattle.totals.specs.Totals.{place_work, more_along, totals_of, AtMost, WorkRight, CanTotal}
 use Rattle.rules.proofs.Totals.{Light, sum_most}
 use Rattle.totals.proofs.Along.{length_more, more_at}
