@@ -3,9 +3,10 @@
  *
  * Link with libdesk.a, which `bash tools/build desk` writes to target/staticlib/.
  * A desk is a head and four tables, all of the caller, with the list of links and the guard that it was set up with. The
- * guard is the time that switches need between bookings, in minutes: a booking holds its links from its start until its
- * guarded end, which is start plus duration plus guard, and its number stands until the clock is there. A list or table is
- * a pointer and its count of elements; another count than the stated one is refused. Every call is answered, and after a
+ * tables are events, free figures, book and totals; a total is what is sold of a link, in Mb/s times minutes. The guard is
+ * the time that switches need between bookings, in minutes: a booking holds its links from its start until its guarded
+ * end, which is start plus duration plus guard, and its number stands until the clock is there. A list or table is a
+ * pointer and its count of elements; another count than the stated one is refused. Every call is answered, and after a
  * refusal head, tables and lent list hold what they held. Each call says its refusals, which are tried in this order:
  *   1   a table has another size than stated, or there is no link or more than 64
  *   13  the lent list has another size than stated
@@ -112,8 +113,8 @@ struct gcr_shown gcr_show(const struct gcr_head *head, const struct gcr_link *li
                           const uint32_t *book, size_t book_count, const uint64_t *totals, size_t total_count,
                           uint32_t link, uint32_t minute);
 
-/* The sold work of a link: bandwidth times duration, guard not counted, of each standing booking that uses it, together at most
- * 33,638,400,000,000. Refuses 1, 3 or 4. */
+/* The sold work of a link: the sum, over the standing bookings that use it, of bandwidth times duration, the guard not counted;
+ * at most 33,638,400,000,000. Refuses 1, 3 or 4. */
 struct gcr_sold gcr_sold_work(const struct gcr_head *head, const struct gcr_link *links, size_t link_count,
                               const uint32_t *events, size_t event_count, const uint32_t *free, size_t free_count,
                               const uint32_t *book, size_t book_count, const uint64_t *totals, size_t total_count,

@@ -12,7 +12,6 @@ use Rattle.units.specs.declared.Minute.{Minute}
 use Rattle.units.specs.declared.Request.{Request}
 use Rattle.units.specs.Limits.{most_bookings, most_events, most_hops, most_guard, place_size}
 use Rattle.units.specs.Lists.{count_from, All}
-use Rattle.units.proofs.Parts.{all_map}
 use Rattle.timeline.specs.Insertion.{Room}
 use Rattle.path_search.specs.declared.Path.{Path}
 use Rattle.places.specs.Places.{slot}
@@ -25,13 +24,13 @@ use Rattle.rules.specs.Tables.{Tables, tables, held, place, head_of, held_by, ev
 use Rattle.rules.specs.Sound.{BookingRight, Obeys}
 use Rattle.rebuild.specs.Rebuilding.{release_of, PlaceRight, CanRebuild}
 use Rattle.changes.specs.Updating.{with_count, booked, Grantable}
-use Rattle.rules.proofs.Obeys.{held_count, right_in}
+use Rattle.rules.proofs.Obeys.{held_count, right_in, all_right_in}
 use Rattle.rules.proofs.Tests.{Sized}
 use Rattle.rebuild.proofs.Added.{CanAdd, Adds, place_right, place_room, added}
 use Rattle.rebuild.proofs.RebuiltBook.{can_rebuild, events_anew, free_anew, totals_anew}
 use Rattle.changes.proofs.InOrder.{slot_inside, book_entered}
 use Rattle.rules.proofs.Fine.{sizes, book_obeys, links_are, events_are, free_are, totals_are}
-use Rattle.rules.proofs.Totals.{all_light}
+use Rattle.rules.proofs.Totals.{all_work_fits}
 use Rattle.totals.specs.Totals.{place_work, more_along, totals_of, AtMost, WorkRight}
 use Rattle.totals.proofs.Totals.{more_totals, totals_most}
 use Rattle.totals.proofs.Kept.{table_is, work_right}
@@ -131,7 +130,7 @@ module _ {links : List Link} {t : Tables} (fine : Fine links t) {number : ℕ} {
   pub granted_few : AtMost most_bookings t.totals
   granted_few l =
       rw totals_were
-      (omega (arith, totals_most (held t).bookings (all_light links (held t) (held t).bookings (book_obeys fine).bookings_right) l, (book_obeys fine).not_too_many))
+      (omega (arith, totals_most (held t).bookings (all_work_fits links (held t) (held t).bookings (book_obeys fine).bookings_right) l, (book_obeys fine).not_too_many))
 
   -- and what it gives
   totals_entered : more_along (place_work (granted_place number r start path)) (place_path (granted_place number r start path)) t.totals ≡ totals_table links (put_in (booked number r start path) (held t))
@@ -141,7 +140,7 @@ module _ {links : List Link} {t : Tables} (fine : Fine links t) {number : ℕ} {
       ∙ table_is links (put_in (booked number r start path) (held t)) (sizes fine).links_right.1 all_right
     where
       all_right : All (BookingRight links (put_in (booked number r start path) (held t))) (put_in (booked number r start path) (held t)).bookings
-      all_right = (g.booking_right, all_map (BookingRight links (held t)) (BookingRight links (put_in (booked number r start path) (held t))) (λ b q. right_in links (held t) (put_in (booked number r start path) (held t)) b q.still_stands q) (held t).bookings (book_obeys fine).bookings_right)
+      all_right = (g.booking_right, all_right_in links (held t) (put_in (booked number r start path) (held t)).bookings (held t).bookings (book_obeys fine).bookings_right)
 
   -- and the tables with what they give
   pub entered_tables : {es' t' book' totals' : List ℕ} {answer : Bool} → Adds (release_of t.head (granted_place number r start path)) (granted_place number r start path) t.events t.free es' t' answer

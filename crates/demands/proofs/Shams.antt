@@ -1,7 +1,7 @@
 -- The buyer's five sham desks, each refuted by the demand that is to exclude it, one that lists starts wrongly, two that answer an
 -- offer wrongly after a cancellation, three that answer an accepted call in another call's form, one that takes every guard for none,
--- two that say a wrong minute beside 8, one that says a minute beside another refusal, two that keep a total which has gone, and two that
--- tell a wrong one.
+-- two that say a wrong minute beside 8, one that says a minute beside another refusal, two that keep the work of a booking that has gone, and
+-- two that tell a wrong total.
 -- All but the calls named they do properly.
 use mathlib.Core.Path.{◌≡◌, refl, sym, ap, subst}
 use mathlib.Core.Logic.{⊎_elim}
@@ -46,15 +46,15 @@ shows≢done e = let z : ◌≡◌ {A = ℕ} 0 1 = cc in absurd (omega arith)
 abbrev says : Answer → Tables → Outcome
 says a t = record { answer = a; tables = t }
 
--- what is done with a booking, an offer, a cancellation, a showing, and any other call
-abbrev by_kind : Ask → Outcome → Outcome → Outcome → Outcome → Outcome → Outcome
-by_kind (book n r) b o c s x = b
-by_kind (offer r) b o c s x = o
-by_kind (list n r) b o c s x = x
-by_kind (cancel n) b o c s x = c
-by_kind (move_clock m) b o c s x = x
-by_kind (show l m) b o c s x = s
-by_kind (sold l) b o c s x = x
+-- what is done with a booking, an offer, a cancellation, a clock move, a showing, a question for a link's total, and any other call
+abbrev by_kind : Ask → Outcome → Outcome → Outcome → Outcome → Outcome → (ℕ → Outcome) → Outcome → Outcome
+by_kind (book n r) b o c m s w x = b
+by_kind (offer r) b o c m s w x = o
+by_kind (list n r) b o c m s w x = x
+by_kind (cancel n) b o c m s w x = c
+by_kind (move_clock n) b o c m s w x = m
+by_kind (show l n) b o c m s w x = s
+by_kind (sold l) b o c m s w x = w l
 
 -- what a sham makes of the proper outcome of a call, and of the tables that it is lent
 abbrev Sham : Type 0
@@ -71,19 +71,19 @@ says_8 proper t a = says (refuse 8) t
 
 -- 2. offers start 0 by link 0 always
 abbrev always_0 : Sham
-always_0 proper t a = by_kind a proper (says (start_at 0 (0 ∷ [])) t) proper proper proper
+always_0 proper t a = by_kind a proper (says (start_at 0 (0 ∷ [])) t) proper proper proper (λ l. proper) proper
 
 -- 3. says booked and writes nothing
 abbrev writes_nothing : Sham
-writes_nothing proper t a = by_kind a (says proper.answer t) proper proper proper proper
+writes_nothing proper t a = by_kind a (says proper.answer t) proper proper proper proper (λ l. proper) proper
 
 -- 4. books the first order properly and then only says so
 abbrev first_only : Sham
-first_only proper t a = by_kind a (elim (eqb t.head.bookings 0) [ true ↦ proper | false ↦ says proper.answer t ]) proper proper proper proper
+first_only proper t a = by_kind a (elim (eqb t.head.bookings 0) [ true ↦ proper | false ↦ says proper.answer t ]) proper proper proper proper (λ l. proper) proper
 
 -- 5. shows made-up free figures
 abbrev makes_up : Sham
-makes_up proper t a = by_kind a proper proper proper (says (shows 3) t) proper
+makes_up proper t a = by_kind a proper proper proper proper (says (shows 3) t) (λ l. proper) proper
 
 -- 6. lists the first minute of the first range apart from the rest of it, which it touches
 abbrev split : List Range → List Range
@@ -110,7 +110,7 @@ abbrev noted : Outcome → Outcome
 noted o = on_done o.answer (says done (with_count (suc o.tables.head.links) o.tables)) o
 
 abbrev offers_so : (Answer → Answer) → Sham
-offers_so f proper t a = by_kind a proper (says (f proper.answer) proper.tables) (noted proper) proper proper
+offers_so f proper t a = by_kind a proper (says (f proper.answer) proper.tables) (noted proper) proper proper (λ l. proper) proper
 
 abbrev after_cancelling : (Answer → Answer) → Desk
 after_cancelling f links t c =
@@ -247,7 +247,7 @@ not_mute d = shows≢done (d.in_form session_links fresh (set_up 0) set_up_passe
 
 -- 10. answers every cancellation so
 abbrev mute_cancelling : Sham
-mute_cancelling proper t a = by_kind a proper proper (on_done proper.answer (says (shows 0) proper.tables) proper) proper proper
+mute_cancelling proper t a = by_kind a proper proper (on_done proper.answer (says (shows 0) proper.tables) proper) proper proper (λ l. proper) proper
 
 cancel_passes : Passes session_links first_stands (ask (cancel 7))
 unfolding checked member sum sound sound_with tables later insert_rising flatten count_from bookings.by_number bookings.insert_by_number goes_on rising equal all_from any_below
@@ -363,7 +363,7 @@ beside_others (shows x) = shows x
 beside_others (refused k) = elim (eqb k.number 8) [ true ↦ refused k | false ↦ refused (record { number = k.number; at = 1 }) ]
 
 abbrev minute_beside : Sham
-minute_beside proper t a = by_kind a proper (says (beside_others proper.answer) proper.tables) proper proper proper
+minute_beside proper t a = by_kind a proper (says (beside_others proper.answer) proper.tables) proper proper proper (λ l. proper) proper
 
 abbrev same_nodes : Request
 same_nodes = request 0 0 1 1 0 0
@@ -383,17 +383,10 @@ abbrev with_totals : List ℕ → Tables → Tables
 with_totals totals t = record { head = t.head; events = t.events; free = t.free; book = t.book; totals = totals }
 
 abbrev forgets : Sham
-forgets proper t a = by_kind a proper proper (says proper.answer (with_totals t.totals proper.tables)) proper proper
+forgets proper t a = by_kind a proper proper (says proper.answer (with_totals t.totals proper.tables)) proper proper (λ l. proper) proper
 
-abbrev keeps_ended : Desk
-keeps_ended links t (ask (move_clock m)) = says (outcome links t (ask (move_clock m))).answer (with_totals t.totals (outcome links t (ask (move_clock m))).tables)
-keeps_ended links t (set_up_with s) = outcome links t (set_up_with s)
-keeps_ended links t (ask (book n r)) = outcome links t (ask (book n r))
-keeps_ended links t (ask (offer r)) = outcome links t (ask (offer r))
-keeps_ended links t (ask (list n r)) = outcome links t (ask (list n r))
-keeps_ended links t (ask (cancel n)) = outcome links t (ask (cancel n))
-keeps_ended links t (ask (show l m)) = outcome links t (ask (show l m))
-keeps_ended links t (ask (sold l)) = outcome links t (ask (sold l))
+abbrev keeps_ended : Sham
+keeps_ended proper t a = by_kind a proper proper proper (says proper.answer (with_totals t.totals proper.tables)) proper (λ l. proper) proper
 
 -- the first order sells 40 of link 2, and is cancelled
 pub not_forgets : ¬ SellsAsBooked (desk_of forgets)
@@ -403,25 +396,15 @@ not_forgets d =
     omega arith
 
 -- or has ended
-abbrev ended : Moment bandwidth_desk keeps_ended session_links
-ended = record { before = fresh; start = 0; accepted = set_up_done; calls = ask (book 7 first) ∷ ask (move_clock 10) ∷ [] }
-
-pub not_keeps_ended : ¬ SellsAsBooked keeps_ended
+pub not_keeps_ended : ¬ SellsAsBooked (desk_of keeps_ended)
 unfolding now plain left counted kinds.outcome kinds.answer_on kinds.answer checked best member sum earliest can_start route fewest lowest reaches first_from all_from any_below row_at passed sound sound_with tables later insert_rising flatten count_from bookings.by_number bookings.insert_by_number goes_on rising equal select
 not_keeps_ended d =
-    let forty : ◌≡◌ {A = ℕ} 40 0 = d.kept session_links ended 2 (lit< tt) in
+    let forty : ◌≡◌ {A = ℕ} 40 0 = d.kept session_links (after keeps_ended (ask (book 7 first) ∷ ask (move_clock 10) ∷ [])) 2 (lit< tt) in
     omega arith
 
 -- 15. tells of a link what f says
 abbrev tells : (List Link → Tables → ℕ → Answer) → Desk
-tells f links t (ask (sold l)) = says (f links t l) t
-tells f links t (set_up_with s) = outcome links t (set_up_with s)
-tells f links t (ask (book n r)) = outcome links t (ask (book n r))
-tells f links t (ask (offer r)) = outcome links t (ask (offer r))
-tells f links t (ask (list n r)) = outcome links t (ask (list n r))
-tells f links t (ask (cancel n)) = outcome links t (ask (cancel n))
-tells f links t (ask (move_clock m)) = outcome links t (ask (move_clock m))
-tells f links t (ask (show l m)) = outcome links t (ask (show l m))
+tells f links t c = desk_of (λ proper t a. by_kind a proper proper proper proper proper (λ l. says (f links t l) t) proper) links t c
 
 -- the guard counted
 abbrev with_guard : List Link → Tables → ℕ → Answer

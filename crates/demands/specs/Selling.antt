@@ -21,8 +21,8 @@ module _ (desk : Desk) where
     abbrev pub plain : Plain
     plain = demands.plain bandwidth_desk desk h
 
-  -- 'That figure equals the sum over the whole book after any calls, clock moves included': at every moment of a history a link's total, as
-  -- kept and as answered, is the sum over the plain book. There are 64, 'one for each link'; 'unused places are zero', 'set-up leaves it empty'.
+  -- 'That figure, which equals the sum over the whole book after any calls, clock moves included': at every moment of a history a link's total,
+  -- as kept and as answered, is the sum over the plain book. There are 64; 'unused places are zero', 'set-up leaves it empty'.
   pub record SellsAsBooked : Type 0 where
     pub kept : (links : List Link) (h : Moment links) (l : ℕ) → l < length links → get_or (now h).totals l 0 ≡ sold_work (plain h) l
     pub answered : (links : List Link) (h : Moment links) (l : ℕ) → l < length links → (desk links (now h) (ask (sold l))).answer ≡ shows (sold_work (plain h) l)

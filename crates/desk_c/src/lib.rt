@@ -200,7 +200,7 @@ pub extern "C" fn gcr_show(
     Shown::from(show(&tables, link, minute))
 }
 
-// The sold work of a link: bandwidth times duration of each standing booking that uses it; it writes no table. Refuses 1, 3 and 4.
+// The sold work of a link: the sum, over the standing bookings that use it, of bandwidth times duration; it writes no table. Refuses 1, 3 and 4.
 #[unsafe(no_mangle)]
 pub extern "C" fn gcr_sold_work(
     head: &Head,

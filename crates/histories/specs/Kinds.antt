@@ -42,7 +42,7 @@ pub record Kind : Type 1 where
   pub result : List Link → Plain → Ask → Answer
   -- the form in which it is answered: a start or 8 where it asks for a start, else what its sentence in document 01 says
   pub InForm : Ask → Answer → Type 0
-  -- whether the call may write a table; offers, listings and showings may not
+  -- whether the call may write a table; calls that only ask may not
   pub writes : Ask → Bool
   -- the plain book as an accepted set-up makes it
   pub empty : Start → Plain

@@ -59,7 +59,7 @@ pub fn request_ok(request: Request) -> bool
         && request.latest.0 <= MAX_MINUTE
 }
 
-// Whether there are 1 to 64 links and the lent tables have the sizes that documents 01 and 02 state.
+// Whether there are 1 to 64 links and the lent tables have the sizes that document 01 states.
 pub fn sized(tables: &LentTables<'_>) -> bool
     ensures { result ≡ sized tables.now.links.now (tables_in tables.now) }
 {

@@ -1,17 +1,16 @@
 -- Rebuilding, from the last place of the book down to the first: the tables without bookings, and one place more.
 use mathlib.Core.Path.{◌≡◌, refl, sym, ap, ◌∙◌, subst}
-use mathlib.Core.List.{List, [], map, flatten}
+use mathlib.Core.List.{List, [], flatten}
 use mathlib.Core.Bool.{Bool, true, ◌&&◌}
 use Prim.Native.Nat.{ℕ, suc, ◌+◌, ◌-◌, ◌*◌, ◌≤◌, ◌<◌}
 use native.Mathlib.Omega.{arith}
-use lib.ListN.{length, get_or, length-map}
+use lib.ListN.{length, get_or}
 use Rattle.units.specs.declared.Link.{Link}
 use Rattle.units.specs.declared.Head.{Head}
 use Rattle.units.specs.Limits.{most_links}
 use Rattle.units.specs.Lists.{sum, count_from, All}
 use Rattle.units.proofs.Tests.{Tells, ◌&◌}
 use Rattle.units.proofs.Parts.{counted_one, counted_all}
-use Rattle.units.proofs.Padded.{length_count}
 use Rattle.timeline.specs.EventTable.{only_clock}
 use Rattle.timeline.specs.Insertion.{Room}
 use Rattle.timeline.proofs.Inserted.{only_clock_events}
@@ -26,6 +25,7 @@ use Rattle.rules.specs.Sound.{BookingRight}
 use Rattle.rebuild.specs.Rebuilding.{release_of, PlaceRight, CanRebuildIn, events_in, free_in}
 use Rattle.rules.specs.Desk.{NotOversold}
 use Rattle.rules.proofs.Obeys.{right_in}
+use Rattle.rules.proofs.Standing.{bookings_from, length_from, all_from, none_from, next_from}
 use Rattle.units.specs.Columns.{column}
 use Rattle.units.proofs.Columns.{length_column, column_at}
 use Rattle.rebuild.proofs.Added.{oversold_added, CanAdd, Adds, place_right, place_room, added}
@@ -54,15 +54,14 @@ module _ (n : ℕ) (links : List Link) (p : Plain) (b : Place) (can : CanAdd n l
 -- ---- the places from i on
 
 abbrev pub from_place : Head → List ℕ → ℕ → Plain
-from_place head book i = with_book (held_by head book) (map (booking_at book) (count_from i (head.bookings - i)))
+from_place head book i = with_book (held_by head book) (bookings_from head book i)
 
 module _ (head : Head) (book : List ℕ) where
   pub from_first : from_place head book 0 ≡ held_by head book
-  from_first = let e : head.bookings - 0 ≡ head.bookings = omega arith in ap (λ k. with_book (held_by head book) (map (booking_at book) (count_from 0 k))) e
+  from_first = ap (with_book (held_by head book)) (all_from head book)
 
   pub from_next : (i : ℕ) → i < head.bookings → from_place head book i ≡ put_in (booking_at book i) (from_place head book (suc i))
-  unfolding count_from
-  from_next i h = let e : head.bookings - i ≡ suc (head.bookings - suc i) = omega arith in ap (λ k. with_book (held_by head book) (map (booking_at book) (count_from i k))) e
+  from_next i h = ap (with_book (held_by head book)) (next_from head book i h)
 
 -- ---- no bookings
 
@@ -78,7 +77,7 @@ module _ (n : ℕ) (some : 0 < n) (links : List Link) (head : Head) (book : List
       bare = with_book (held_by head book) []
 
       nothing_left : from_place head book head.bookings ≡ bare
-      nothing_left = let e : head.bookings - head.bookings ≡ 0 = omega arith in ap (λ k. with_book (held_by head book) (map (booking_at book) (count_from head.bookings k))) e
+      nothing_left = ap (with_book (held_by head book)) (none_from head book)
 
       long : length links ≤ length capacities
       long = omega (arith, length_column (λ l. l.capacity.0) links)
@@ -102,13 +101,10 @@ module _ {n : ℕ} {links : List Link} {head : Head} {book es₀ t₀ : List ℕ
   all_stand : (i : ℕ) → All (λ b. head.clock.0 < until (from_place head book i) b) (from_place head book i).bookings
   all_stand i = counted_all (booking_at book) (λ b. head.clock.0 < until (from_place head book i) b) i (head.bookings - i) (λ j a h. (one_right j (omega arith)).still_stands)
 
-  length_from : (i : ℕ) → length (from_place head book i).bookings ≡ head.bookings - i
-  length_from i = length-map (count_from i (head.bookings - i)) (booking_at book) ∙ length_count i (head.bookings - i)
-
   can_add : (i : ℕ) → i < head.bookings → CanAdd n links (from_place head book (suc i)) (booking_in book i)
   can_add i h = record {
     few_links = can.few_links;
-    room = omega (arith, length_from (suc i), enough);
+    room = omega (arith, length_from head book (suc i), enough);
     right = let r = one_right i h in right_in links (held_by head book) (from_place head book (suc i)) (booking_at book i) r.still_stands r;
     count_right = can.counts_right i h;
   }

@@ -39,6 +39,10 @@ right_in links p q b h r = record {
   still_stands = h;
 }
 
+-- and so are right bookings in the same plain book with other bookings
+pub all_right_in : (links : List Link) (p : Plain) (cs bs : List Booking) → All (BookingRight links p) bs → All (BookingRight links (with_book p cs)) bs
+all_right_in links p cs bs = all_map (BookingRight links p) (BookingRight links (with_book p cs)) (λ b r. right_in links p (with_book p cs) b r.still_stands r) bs
+
 module _ (links : List Link) (p : Plain) {bs cs : List Booking} (q : Permᴰ bs cs) where
   pub free_permuted : free links (with_book p bs) ≡ free links (with_book p cs)
   free_permuted = fun_ext λ l. fun_ext λ m. ap (λ x. capacity links l - x) (taken_permuted p q l m)
@@ -66,8 +70,7 @@ module _ (links : List Link) (p : Plain) {bs cs : List Booking} (q : Permᴰ bs 
     guard_right = o.guard_right;
     not_too_many = rw (← (length_permuted q)) o.not_too_many;
     numbers_differ = distinct_permuted (Permᴰ.map (λ b. b.number) q) o.numbers_differ;
-    bookings_right = all_map (BookingRight links (with_book p bs)) (BookingRight links (with_book p cs)) (λ b r. right_in links (with_book p bs) (with_book p cs) b r.still_stands r) cs
-        (all_permuted (BookingRight links (with_book p bs)) q o.bookings_right);
+    bookings_right = all_right_in links (with_book p bs) cs cs (all_permuted (BookingRight links (with_book p bs)) q o.bookings_right);
     not_oversold = λ l m h. rw (← (taken_permuted p q l m)) (o.not_oversold l m h);
   }
 

@@ -1,8 +1,10 @@
--- The bookings that a head and a book table hold: how many they are, and that a number stands exactly where it is found.
+-- The bookings that a head and a book table hold: how many they are, those of the places from one on, and that a number stands exactly
+-- where it is found.
 use mathlib.Core.Path.{◌≡◌, refl, sym, ◌∙◌, ap}
-use mathlib.Core.List.{List, map}
+use mathlib.Core.List.{List, [], ◌∷◌, map}
 use mathlib.Core.Bool.{Bool, true, false, cond, ◌||◌}
-use Prim.Native.Nat.{ℕ, zero, suc, ◌+◌}
+use Prim.Native.Nat.{ℕ, zero, suc, ◌+◌, ◌-◌, ◌<◌}
+use native.Mathlib.Omega.{arith}
 use lib.Dec.{eqb}
 use borrow.Author.Tests.{eq-eqb, ne_eqb, eqb-true, eqb-false}
 use lib.ListN.{length, length-map}
@@ -15,6 +17,7 @@ use Rattle.units.specs.Limits.{place_size}
 use Rattle.units.specs.Lists.{member, count_from}
 use Rattle.units.proofs.Padded.{length_count}
 use Rattle.places.specs.Places.{number_at, find}
+use Rattle.rules.specs.Plain.{Booking}
 use Rattle.rules.specs.Calls.{stands}
 use Rattle.rules.specs.Tables.{booking_at, held_by}
 
@@ -22,7 +25,28 @@ use Rattle.rules.specs.Tables.{booking_at, held_by}
 pub count_read : (head : Head) (book : List ℕ) → length (held_by head book).bookings ≡ head.bookings
 count_read head book = length-map (count_from 0 head.bookings) _ ∙ length_count 0 head.bookings
 
--- a number stands exactly where it is found
+-- ---- the places from i on
+
+abbrev pub bookings_from : Head → List ℕ → ℕ → List Booking
+bookings_from head book i = map (booking_at book) (count_from i (head.bookings - i))
+
+module _ (head : Head) (book : List ℕ) where
+  pub length_from : (i : ℕ) → length (bookings_from head book i) ≡ head.bookings - i
+  length_from i = length-map (count_from i (head.bookings - i)) (booking_at book) ∙ length_count i (head.bookings - i)
+
+  pub all_from : bookings_from head book 0 ≡ (held_by head book).bookings
+  all_from = let e : head.bookings - 0 ≡ head.bookings = omega arith in ap (λ k. map (booking_at book) (count_from 0 k)) e
+
+  pub none_from : bookings_from head book head.bookings ≡ []
+  unfolding count_from
+  none_from = let e : head.bookings - head.bookings ≡ 0 = omega arith in ap (λ k. map (booking_at book) (count_from head.bookings k)) e
+
+  pub next_from : (i : ℕ) → i < head.bookings → bookings_from head book i ≡ booking_at book i ∷ bookings_from head book (suc i)
+  unfolding count_from
+  next_from i h = let e : head.bookings - i ≡ suc (head.bookings - suc i) = omega arith in ap (λ k. map (booking_at book) (count_from i k)) e
+
+-- ---- a number stands exactly where it is found
+
 number_found : (places : List ℕ) (x i n from : ℕ) → stands x (map (booking_at places) (count_from i n)) ≡ is_some (position_from (λ m. eqb m x) from (map (number_at place_size places) (count_from i n)))
 unfolding member count_from
 number_found places x i zero from = refl

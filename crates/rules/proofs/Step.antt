@@ -16,7 +16,7 @@ use Rattle.units.specs.Lists.{Within, member, sum, All}
 use Rattle.units.specs.Refusals as refusals
 use Rattle.units.proofs.Tests.{member_tells, absent, in_range, at_most}
 use Rattle.units.proofs.Permuted.{length_permuted, member_permuted, select_permuted}
-use Rattle.units.proofs.Parts.{select_part, length_part, map_part, distinct_part, all_map, all_at, all_selected}
+use Rattle.units.proofs.Parts.{select_part, length_part, map_part, distinct_part, all_at, all_selected}
 use Rattle.choice.specs.Choice.{Grant}
 use Rattle.choice.specs.BreakOff.{break_off}
 use Rattle.choice.specs.Carrying.{carries as carries_by}
@@ -34,7 +34,7 @@ use Rattle.rules.proofs.Checks.{done≢refused, Passed, checked_elim, passed_all
 use Rattle.rules.proofs.Exits.{set_up_answer}
 use Rattle.rules.proofs.Tests.{links_tell, sized_tells, RequestRight, request_right}
 use Rattle.rules.proofs.Choices.{choice_by, GoodGrant, best_elim}
-use Rattle.rules.proofs.Obeys.{right_in, free_permuted, sold_permuted, tables_permuted, held_ordered, tables_ordered, tables_sound, tables_sized}
+use Rattle.rules.proofs.Obeys.{right_in, all_right_in, free_permuted, sold_permuted, tables_permuted, held_ordered, tables_ordered, tables_sound, tables_sized}
 
 -- ---- setting up
 
@@ -115,7 +115,7 @@ module _ (links : List Link) (p : Plain) (o : Obeys links p) (n : ℕ) (r : Requ
     guard_right = o.guard_right;
     not_too_many = room;
     numbers_differ = (absent n (numbers p.bookings) new, o.numbers_differ);
-    bookings_right = (booked_right, all_map (BookingRight links p) (BookingRight links (put_in booked p)) (λ b r. right_in links p (put_in booked p) b r.still_stands r) p.bookings o.bookings_right);
+    bookings_right = (booked_right, all_right_in links p (put_in booked p).bookings p.bookings o.bookings_right);
     not_oversold = λ l m h. rw taken_put_in (booked_fits l m h);
   }
 

@@ -12,7 +12,7 @@ use Rattle.units.specs.Lists.{if_so, member, sum, count_from, All}
 use Rattle.units.specs.Work.{work_of, most_work}
 use Rattle.units.proofs.Parts.{all_map}
 use Rattle.units.proofs.Padded.{length_count, length_padded, count_at, padded_past}
-use Rattle.rules.specs.Plain.{Booking, Plain, work, sold_work}
+use Rattle.rules.specs.Plain.{Booking, Plain, sold_by, sold_work}
 use Rattle.rules.specs.Tables.{totals_table}
 use Rattle.rules.specs.Sound.{BookingRight, Obeys}
 
@@ -38,23 +38,23 @@ module _ (links : List Link) (p : Plain) where
 -- ---- the most that can be sold
 
 -- b sells no more than a booking can
-abbrev pub Light : Booking → Type 0
-Light b = work_of b.terms.bandwidth b.terms.duration ≤ most_work
+abbrev pub WorkFits : Booking → Type 0
+WorkFits b = work_of b.terms.bandwidth b.terms.duration ≤ most_work
 
-pub light : (links : List Link) (p : Plain) (b : Booking) → BookingRight links p b → Light b
-light links p b r = mul-le-mul r.bandwidth_right.1 r.duration_right.1
+pub work_fits : (links : List Link) (p : Plain) (b : Booking) → BookingRight links p b → WorkFits b
+work_fits links p b r = mul-le-mul r.bandwidth_right.1 r.duration_right.1
 
-pub all_light : (links : List Link) (p : Plain) (bs : List Booking) → All (BookingRight links p) bs → All Light bs
-all_light links p = all_map (BookingRight links p) Light (light links p)
+pub all_work_fits : (links : List Link) (p : Plain) (bs : List Booking) → All (BookingRight links p) bs → All WorkFits bs
+all_work_fits links p = all_map (BookingRight links p) WorkFits (work_fits links p)
 
 pub if_so_most : (t : Bool) (x : ℕ) → if_so t x ≤ x
 if_so_most true x = omega arith
 if_so_most false x = omega arith
 
-pub sum_most : (bs : List Booking) → All Light bs → (l : ℕ) → sum (map (λ b. work b l) bs) ≤ length bs * most_work
+pub sold_by_most : (bs : List Booking) → All WorkFits bs → (l : ℕ) → sold_by bs l ≤ length bs * most_work
 unfolding sum
-sum_most [] a l = omega arith
-sum_most (b ∷ bs) a l = omega (arith, if_so_most (member l b.grant.path) (work_of b.terms.bandwidth b.terms.duration), a.0, sum_most bs a.1 l)
+sold_by_most [] a l = omega arith
+sold_by_most (b ∷ bs) a l = omega (arith, if_so_most (member l b.grant.path) (work_of b.terms.bandwidth b.terms.duration), a.0, sold_by_most bs a.1 l)
 
 pub sold_most : (links : List Link) (p : Plain) → Obeys links p → (l : ℕ) → sold_work p l ≤ most_bookings * most_work
-sold_most links p o l = omega (arith, sum_most p.bookings (all_light links p p.bookings o.bookings_right) l, o.not_too_many)
+sold_most links p o l = omega (arith, sold_by_most p.bookings (all_work_fits links p p.bookings o.bookings_right) l, o.not_too_many)

@@ -66,9 +66,13 @@ taken p l m = sum (map (λ b. uses p b l m) p.bookings)
 abbrev pub work : Booking → ℕ → ℕ
 work b l = if_so (member l b.grant.path) (work_of b.terms.bandwidth b.terms.duration)
 
+-- that of a list of bookings together
+abbrev pub sold_by : List Booking → ℕ → ℕ
+sold_by bs l = sum (map (λ b. work b l) bs)
+
 -- 'the sum, over standing bookings that use it'
 abbrev pub sold_work : Plain → ℕ → ℕ
-sold_work p l = sum (map (λ b. work b l) p.bookings)
+sold_work p = sold_by p.bookings
 
 -- what stands past the end of the link list
 abbrev pub no_link : Link

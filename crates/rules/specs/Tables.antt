@@ -68,7 +68,7 @@ free_table links p = table most_events (length links) (free links p) (events_of 
 abbrev pub book_table : Plain → List ℕ
 book_table p = padded (most_bookings * place_size) (flatten (map place (by_number p.bookings)))
 
--- document 02's '64 totals, one for each link'
+-- '64 totals, one for each link'
 abbrev pub totals_table : List Link → Plain → List ℕ
 totals_table links p = padded most_totals (map (sold_work p) (count_from 0 (length links)))
 
@@ -111,7 +111,7 @@ same s t =
     eqb s.head.clock.0 t.head.clock.0 && eqb s.head.links t.head.links && eqb s.head.bookings t.head.bookings
     && eqb s.head.guard.0 t.head.guard.0 && equal s.events t.events && equal s.free t.free && equal s.book t.book && equal s.totals t.totals
 
--- the sizes that documents 01 and 02 state: of the link list, events, free figures, book and totals
+-- the sizes that document 01 states: of the link list, events, free figures, book and totals
 abbrev pub sizes_ok : ℕ → ℕ → ℕ → ℕ → ℕ → Bool
 sizes_ok links events free places totals =
     within 1 most_links links && eqb events most_events && eqb free (most_events * most_links) && eqb places (most_bookings * place_size)

@@ -117,7 +117,7 @@ pub fn show(tables: &LentTables<'_>, link: LinkNumber, minute: Minute) -> Result
     Ok(tables.free_table().figure(link, minute))
 }
 
-// The sold work of a link: bandwidth times duration of each standing booking that uses it.
+// The sold work of a link: the sum, over the standing bookings that use it, of bandwidth times duration.
 pub fn sold_work(tables: &LentTables<'_>, link: LinkNumber) -> Result<Work, Refusal>
     requires { Fine tables.now.links.now (tables_in tables.now) }
     ensures { sold_values result ≡ sold_answer tables.now.links.now (tables_in tables.now) (ask (Ask.sold link.0)) }

@@ -68,7 +68,7 @@ pub record Adding (x : ℕ) (path before : List ℕ) (i : ℕ) (t : List ℕ) : 
   pub sized : length t ≡ most_totals
   pub few : AtMost (most_bookings + i) t
 
-module _ {x : ℕ} {path before : List ℕ} {i : ℕ} {t : List ℕ} (a : Adding x path before i t) (light : x ≤ most_work) (inside : i < length path) (there : get_or path i 0 < most_totals) where
+module _ {x : ℕ} {path before : List ℕ} {i : ℕ} {t : List ℕ} (a : Adding x path before i t) (fits : x ≤ most_work) (inside : i < length path) (there : get_or path i 0 < most_totals) where
   pub added_one : Adding x path before (i + 1) (set t (get_or path i 0) (get_or t (get_or path i 0) 0 + x))
   added_one = record {
     rest = a.rest ∙ more_next x path i t inside;

@@ -13,22 +13,19 @@ use Rattle.units.specs.Work.{most_work}
 use Rattle.units.proofs.Padded.{length_count, count_at}
 use Rattle.book.specs.declared.Booking.{Booking as Place}
 use Rattle.book.specs.Places.{booking_in, place_path}
-use Rattle.rules.specs.Plain.{Booking, work}
+use Rattle.rules.specs.Plain.{Booking, sold_by}
 use Rattle.rules.specs.Tables.{booking_of, booking_at}
 use Rattle.totals.specs.Totals.{place_work, more_along, totals_of, AtMost, WorkRight, CanTotal}
-use Rattle.rules.proofs.Totals.{Light, sum_most}
+use Rattle.rules.proofs.Totals.{WorkFits, sold_by_most}
+use Rattle.rules.proofs.Standing.{bookings_from, length_from, none_from, next_from}
 use Rattle.totals.proofs.Along.{length_more, more_at}
 
--- the total of link l
-abbrev pub total : List Booking → ℕ → ℕ
-total bs l = sum (map (λ b. work b l) bs)
-
 pub length_sums : (bs : List Booking) → length (totals_of bs) ≡ most_totals
-length_sums bs = length-map (count_from 0 most_totals) (total bs) ∙ length_count 0 most_totals
+length_sums bs = length-map (count_from 0 most_totals) (sold_by bs) ∙ length_count 0 most_totals
 
-pub sum_at : (bs : List Booking) (l : ℕ) → l < most_totals → get_or (totals_of bs) l 0 ≡ total bs l
+pub sum_at : (bs : List Booking) (l : ℕ) → l < most_totals → get_or (totals_of bs) l 0 ≡ sold_by bs l
 sum_at bs l h =
-    ap (λ (t : List ℕ). get_or t l 0) (sym (append-nil (totals_of bs))) ∙ count_at 0 (total bs) [] 0 most_totals l h ∙ (let z : 0 + l ≡ l = omega arith in ap (total bs) z)
+    ap (λ (t : List ℕ). get_or t l 0) (sym (append-nil (totals_of bs))) ∙ count_at 0 (sold_by bs) [] 0 most_totals l h ∙ (let z : 0 + l ≡ l = omega arith in ap (sold_by bs) z)
 
 -- ---- one booking more
 
@@ -49,45 +46,36 @@ more_totals b r bs = ext_get_or 0 more (totals_of (booking_of b ∷ bs)) (length
 
 -- ---- the most that they can be
 
-pub totals_most : (bs : List Booking) → All Light bs → AtMost (length bs) (totals_of bs)
-totals_most bs a l = elim (dec_lt l most_totals) [ yes h ↦ rw (sum_at bs l h) (sum_most bs a l) | no h ↦ past (omega arith) ]
+pub totals_most : (bs : List Booking) → All WorkFits bs → AtMost (length bs) (totals_of bs)
+totals_most bs a l = elim (dec_lt l most_totals) [ yes h ↦ rw (sum_at bs l h) (sold_by_most bs a l) | no h ↦ past (omega arith) ]
   where
     past : most_totals ≤ l → get_or (totals_of bs) l 0 ≤ length bs * most_work
     past h = let none : get_or (totals_of bs) l 0 ≡ 0 = get_or-eq_default (totals_of bs) 0 (omega (arith, length_sums bs)) in omega arith
 
 -- ---- the places from i on
 
-abbrev pub bookings_from : Head → List ℕ → ℕ → List Booking
-bookings_from head book i = map (booking_at book) (count_from i (head.bookings - i))
-
 module _ {head : Head} {book : List ℕ} (can : CanTotal head book) where
-  length_from : (i : ℕ) → length (bookings_from head book i) ≡ head.bookings - i
-  length_from i = length-map (count_from i (head.bookings - i)) (booking_at book) ∙ length_count i (head.bookings - i)
-
-  light_from : (i n : ℕ) → i + n ≤ head.bookings → All Light (map (booking_at book) (count_from i n))
+  fits_from : (i n : ℕ) → i + n ≤ head.bookings → All WorkFits (map (booking_at book) (count_from i n))
   unfolding count_from
-  light_from i zero h = tt
-  light_from i (suc n) h = ((can.places_right i (omega arith)).work_right, light_from (suc i) n (omega arith))
+  fits_from i zero h = tt
+  fits_from i (suc n) h = ((can.places_right i (omega arith)).work_right, fits_from (suc i) n (omega arith))
 
   -- no booking
-  pub none_from : totals_of (bookings_from head book head.bookings) ≡ replicate most_totals 0
+  pub no_totals : totals_of (bookings_from head book head.bookings) ≡ replicate most_totals 0
   unfolding count_from sum
-  none_from = let e : head.bookings - head.bookings ≡ 0 = omega arith in ap (λ k. totals_of (map (booking_at book) (count_from head.bookings k))) e
+  no_totals = ap totals_of (none_from head book)
 
   module _ (place : ℕ) (inside : place ≤ head.bookings) where
-    pub few_from : AtMost most_bookings (totals_of (bookings_from head book place))
-    few_from l = omega (arith, totals_most (bookings_from head book place) (light_from place (head.bookings - place) (omega arith)) l, length_from place, can.few_bookings)
+    pub few_totals : AtMost most_bookings (totals_of (bookings_from head book place))
+    few_totals l =
+        let most = totals_most (bookings_from head book place) (fits_from place (head.bookings - place) (omega arith)) l in
+        omega (arith, most, length_from head book place, can.few_bookings)
 
     -- the booking of the place before
-    pub one_before : 0 < place → let b = booking_in book (place - 1) in
+    pub totals_before : 0 < place → let b = booking_in book (place - 1) in
         more_along (place_work b) (place_path b) (totals_of (bookings_from head book place)) ≡ totals_of (bookings_from head book (place - 1))
-    unfolding count_from
-    one_before some =
+    totals_before some =
+        let next : suc (place - 1) ≡ place = omega arith in
         more_totals (booking_in book (place - 1)) (can.places_right (place - 1) (omega arith)) (bookings_from head book place)
-        ∙ ap totals_of (sym from)
-      where
-        from : bookings_from head book (place - 1) ≡ booking_at book (place - 1) ∷ bookings_from head book place
-        from =
-            let e : head.bookings - (place - 1) ≡ suc (head.bookings - place) = omega arith in
-            let f : suc (place - 1) ≡ place = omega arith in
-            ap (λ k. map (booking_at book) (count_from (place - 1) k)) e ∙ ap (λ k. booking_at book (place - 1) ∷ map (booking_at book) (count_from k (head.bookings - place))) f
+        ∙ ap (λ k. totals_of (booking_at book (place - 1) ∷ bookings_from head book k)) (sym next)
+        ∙ ap totals_of (sym (next_from head book (place - 1) (omega arith)))

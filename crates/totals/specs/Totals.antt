@@ -1,12 +1,12 @@
 -- What the totals of a book are, booking by booking, and what a place must be for its work to be added.
 use Rattle.std.specs.Prelude.{◌≡◌, List, [], ◌∷◌, map, ℕ, ◌+◌, ◌*◌, ◌≤◌, ◌<◌, length, get_or, set}
 use Rattle.units.specs.Limits.{most_totals, most_hops, most_bookings, place_size}
-use Rattle.units.specs.Lists.{sum, count_from, All, Distinct}
+use Rattle.units.specs.Lists.{count_from, All, Distinct}
 use Rattle.units.specs.Work.{work_of, most_work}
 use Rattle.units.specs.declared.Head.{Head}
 use Rattle.book.specs.declared.Booking.{Booking as Place}
 use Rattle.book.specs.Places.{booking_in, place_path}
-use Rattle.rules.specs.Plain.{Booking, work}
+use Rattle.rules.specs.Plain.{Booking, sold_by}
 
 -- the work of a place's booking, and the totals with it added to each link of a path
 abbrev pub place_work : Place → ℕ
@@ -18,7 +18,7 @@ more_along x (l ∷ ls) t = more_along x ls (set t l (get_or t l 0 + x))
 
 -- all totals of a list of bookings
 abbrev pub totals_of : List Booking → List ℕ
-totals_of bs = map (λ l. sum (map (λ b. work b l) bs)) (count_from 0 most_totals)
+totals_of bs = map (sold_by bs) (count_from 0 most_totals)
 
 -- no total is more than n bookings can add
 abbrev pub AtMost : ℕ → List ℕ → Type 0

@@ -2,16 +2,16 @@
 use Rattle.std.proofs.Common.{sym, ap, ap₂, ◌∙◌, replicate, arith}
 use Rattle.book.specs.Places.{place_path}
 use Rattle.totals.specs.Totals.{place_work, more_along}
-use Rattle.totals.proofs.Totals.{none_from, few_from, one_before}
+use Rattle.totals.proofs.Totals.{no_totals, few_totals, totals_before}
 use Rattle.totals.proofs.write_totals.Goals as goal
 
 pub loop-place-init : goal.loop-place-init
-loop-place-init c = c.fill.ensures.after (λ y same. same) ∙ ap (λ n. replicate n 0) c.requires.sized ∙ sym (none_from c.requires.can)
+loop-place-init c = c.fill.ensures.after (λ y same. same) ∙ ap (λ n. replicate n 0) c.requires.sized ∙ sym (no_totals c.requires.can)
 
 pub add_work-requires-clause-few : goal.add_work-requires-clause-few
-add_work-requires-clause-few c = rw c.loop-place.invariant (few_from c.requires.can c.loop-place.place (omega arith))
+add_work-requires-clause-few c = rw c.loop-place.invariant (few_totals c.requires.can c.loop-place.place (omega arith))
 
 pub loop-place-preserved : goal.loop-place-preserved
 loop-place-preserved c =
     c.add_work.ensures ∙ ap₂ (λ b t. more_along (place_work b) (place_path b) t) c.booking_at.ensures c.loop-place.invariant
-    ∙ one_before c.requires.can c.loop-place.place (omega arith) (omega arith)
+    ∙ totals_before c.requires.can c.loop-place.place (omega arith) (omega arith)
