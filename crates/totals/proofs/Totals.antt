@@ -1,7 +1,7 @@
 -- The totals of a list of bookings: one booking more, the most that they can be, and those of the places of a book.
 use mathlib.Core.Path.{◌≡◌, sym, ap, ◌∙◌}
-use mathlib.Core.List.{List, [], ◌∷◌, map, append-nil}
-use Prim.Native.Nat.{ℕ, zero, suc, ◌+◌, ◌-◌, ◌*◌, ◌≤◌, ◌<◌}
+use mathlib.Core.List.{List, [], ◌∷◌, append-nil}
+use Prim.Native.Nat.{ℕ, suc, ◌+◌, ◌-◌, ◌*◌, ◌≤◌, ◌<◌}
 use native.Mathlib.Decide.{dec_lt}
 use native.Mathlib.Omega.{arith}
 use lib.ListN.{length, get_or, replicate, length-map, get_or-eq_default}
@@ -10,6 +10,7 @@ use Rattle.units.specs.declared.Head.{Head}
 use Rattle.units.specs.Limits.{most_totals, most_bookings}
 use Rattle.units.specs.Lists.{sum, count_from, All}
 use Rattle.units.specs.Work.{most_work}
+use Rattle.units.proofs.Parts.{counted_all}
 use Rattle.units.proofs.Padded.{length_count, count_at}
 use Rattle.book.specs.declared.Booking.{Booking as Place}
 use Rattle.book.specs.Places.{booking_in, place_path}
@@ -55,10 +56,8 @@ totals_most bs a l = elim (dec_lt l most_totals) [ yes h ↦ rw (sum_at bs l h) 
 -- ---- the places from i on
 
 module _ {head : Head} {book : List ℕ} (can : CanTotal head book) where
-  fits_from : (i n : ℕ) → i + n ≤ head.bookings → All WorkFits (map (booking_at book) (count_from i n))
-  unfolding count_from
-  fits_from i zero h = tt
-  fits_from i (suc n) h = ((can.places_right i (omega arith)).work_right, fits_from (suc i) n (omega arith))
+  all_fit : (i : ℕ) → All WorkFits (bookings_from head book i)
+  all_fit i = counted_all (booking_at book) WorkFits i (head.bookings - i) (λ j a h. (can.places_right j (omega arith)).work_right)
 
   -- no booking
   pub no_totals : totals_of (bookings_from head book head.bookings) ≡ replicate most_totals 0
@@ -68,7 +67,7 @@ module _ {head : Head} {book : List ℕ} (can : CanTotal head book) where
   module _ (place : ℕ) (inside : place ≤ head.bookings) where
     pub few_totals : AtMost most_bookings (totals_of (bookings_from head book place))
     few_totals l =
-        let most = totals_most (bookings_from head book place) (fits_from place (head.bookings - place) (omega arith)) l in
+        let most = totals_most (bookings_from head book place) (all_fit place) l in
         omega (arith, most, length_from head book place, can.few_bookings)
 
     -- the booking of the place before
