@@ -12,7 +12,7 @@ use desk_tests::exported::listing;
 use desk_tests::lines::output;
 use desk_tests::listings::{self, KINDS};
 use desk_tests::plain::{self, Answer, Call, Desk};
-use desk_tests::sessions::{session, History};
+use desk_tests::sessions::{each_desk, session, History};
 use desk_tests::tables::{self, Tables};
 use desk_tests::{Link, Refused, LIST_FIGURES};
 use support::Random;
@@ -127,17 +127,12 @@ fn damages() {
 #[test]
 fn wrong_totals_are_refused() {
     let mut random = Random::new(SEED);
-    for seed in SEED..SEED + 200 {
-        let mut history = History::new(seed);
-        for step in 0..30 {
-            history.step();
-            let desk = &history.desk;
-            for (what, totals) in wrong_totals(&mut random, desk) {
-                let tables = Tables { totals, ..tables::of(desk) };
-                refused_alike(&desk.links, tables, &format!("seed {seed:#x}, step {step}: {what}"));
-            }
+    each_desk(SEED, |desk, place| {
+        for (what, totals) in wrong_totals(&mut random, desk) {
+            let tables = Tables { totals, ..tables::of(desk) };
+            refused_alike(&desk.links, tables, &format!("{place}: {what}"));
         }
-    }
+    });
 }
 
 /// Tables that aren't sound are refused by every call but set-up, and nothing is written; sound ones are shown.

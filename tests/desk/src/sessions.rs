@@ -1,6 +1,6 @@
 //! Random sessions as the bytes of the program's input, and random histories of the eight calls as values.
 
-use support::Random;
+use support::{Random, Seed};
 
 use crate::calls::{bad_link, call, fills, first_minute, guard, listed, net, order, pick, style, suits, Style};
 use crate::lines::{answer, link_bytes, opening, order_bytes, read_order};
@@ -128,6 +128,18 @@ fn order_piece(random: &mut Random, style: Style, desk: &Desk) -> [u8; 16] {
 fn flip(bytes: &mut [u8], bit: usize) {
     if let Some(byte) = bytes.get_mut(bit / 8) {
         *byte ^= 0x80 >> (bit % 8);
+    }
+}
+
+/// The desks of 200 random histories, after each of 30 steps, with where each stands.
+pub fn each_desk(first_seed: u64, mut tried: impl FnMut(&Desk, &str)) {
+    for seed in first_seed..first_seed + 200 {
+        let _seed = Seed(seed);
+        let mut history = History::new(seed);
+        for step in 0..30 {
+            history.step();
+            tried(&history.desk, &format!("seed {seed:#x}, step {step}"));
+        }
     }
 }
 

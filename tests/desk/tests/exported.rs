@@ -8,7 +8,7 @@ use desk_tests::damages::{damage, forged, other_guards, resize, unsound, wrong_t
 use desk_tests::exported::{self, fresh};
 use desk_tests::guards;
 use desk_tests::plain::{Answer, Call, Desk};
-use desk_tests::sessions::History;
+use desk_tests::sessions::{each_desk, History};
 use desk_tests::tables::{self, Tables};
 use desk_tests::totals;
 use desk_tests::{listings, Link, Request, LINKS, LIST_FIGURES, MAX_GUARD};
@@ -228,29 +228,22 @@ fn damaged_and_forged_tables() {
 fn damages_of_the_guard() {
     let mut random = Random::new(SEED + 2);
     let (mut sound, mut with_bookings, mut too_long) = (0u32, 0u32, 0u32);
-    for seed in SEED..SEED + 200 {
-        let _seed = Seed(seed);
-        let mut history = History::new(seed);
-        for step in 0..30 {
-            history.step();
-            let desk = &history.desk;
-            for guard in other_guards(desk.guard) {
-                let mut held = tables::of(desk);
-                held.head.guard = guard;
-                let call = any_call(&mut random, desk);
-                let refusal =
-                    judged(&desk.links, &mut held, &call, &format!("seed {seed:#x}, step {step}, guard {guard}"));
-                let accepted = guard <= MAX_GUARD && desk.bookings.is_empty();
-                assert_eq!(refusal == 0, accepted, "seed {seed:#x}, step {step}, guard {guard}: {call:?}");
-                let count = match (accepted, guard > MAX_GUARD) {
-                    (true, _) => &mut sound,
-                    (false, true) => &mut too_long,
-                    (false, false) => &mut with_bookings,
-                };
-                *count += 1;
-            }
+    each_desk(SEED, |desk, place| {
+        for guard in other_guards(desk.guard) {
+            let mut held = tables::of(desk);
+            held.head.guard = guard;
+            let call = any_call(&mut random, desk);
+            let refusal = judged(&desk.links, &mut held, &call, &format!("{place}, guard {guard}"));
+            let accepted = guard <= MAX_GUARD && desk.bookings.is_empty();
+            assert_eq!(refusal == 0, accepted, "{place}, guard {guard}: {call:?}");
+            let count = match (accepted, guard > MAX_GUARD) {
+                (true, _) => &mut sound,
+                (false, true) => &mut too_long,
+                (false, false) => &mut with_bookings,
+            };
+            *count += 1;
         }
-    }
+    });
     println!("another guard: {with_bookings} refused with bookings, {too_long} refused above 15, {sound} sound");
     assert!(sound > 1_000 && with_bookings > 10_000 && too_long > 10_000, "{sound}, {with_bookings}, {too_long}");
 }
@@ -260,21 +253,15 @@ fn damages_of_the_guard() {
 fn damages_of_the_totals() {
     let mut random = Random::new(SEED + 3);
     let mut kinds = std::collections::BTreeMap::new();
-    for seed in SEED..SEED + 200 {
-        let _seed = Seed(seed);
-        let mut history = History::new(seed);
-        for step in 0..30 {
-            history.step();
-            let desk = &history.desk;
-            for (what, totals) in wrong_totals(&mut random, desk) {
-                let mut held = Tables { totals, ..tables::of(desk) };
-                let call = any_call(&mut random, desk);
-                let refusal = judged(&desk.links, &mut held, &call, &format!("seed {seed:#x}, step {step}, {what}"));
-                assert_ne!(refusal, 0, "seed {seed:#x}, step {step}, {what}: {call:?}");
-                *kinds.entry(what).or_insert(0) += (refusal == 3) as u32;
-            }
+    each_desk(SEED, |desk, place| {
+        for (what, totals) in wrong_totals(&mut random, desk) {
+            let mut held = Tables { totals, ..tables::of(desk) };
+            let call = any_call(&mut random, desk);
+            let refusal = judged(&desk.links, &mut held, &call, &format!("{place}, {what}"));
+            assert_ne!(refusal, 0, "{place}, {what}: {call:?}");
+            *kinds.entry(what).or_insert(0) += (refusal == 3) as u32;
         }
-    }
+    });
     println!("{} wrong totals refused 3: {kinds:?}", kinds.values().sum::<u32>());
     assert!(kinds.len() == WRONG_TOTALS && kinds.values().all(|&count| count >= 50), "{kinds:?}");
 }

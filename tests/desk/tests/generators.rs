@@ -6,7 +6,7 @@ use desk_tests::guards;
 use desk_tests::lines::{answer, line, opening, output, read_order};
 use desk_tests::listings::{self, KINDS};
 use desk_tests::plain::{Answer, Booking, Call, Desk};
-use desk_tests::sessions::{fullest, session, History};
+use desk_tests::sessions::{each_desk, fullest, session, History};
 use desk_tests::tables::{self, Tables};
 use desk_tests::{Link, Refused, MAX_DURATION, MAX_GUARD, MAX_MINUTE};
 use support::{assert_enough, Random, Seed};
@@ -305,18 +305,13 @@ fn another_guard_is_sound_without_bookings_alone() {
 fn a_wrong_total_is_unsound() {
     let mut kinds = std::collections::BTreeMap::new();
     let mut random = Random::new(SEED);
-    for seed in SEED..SEED + 200 {
-        let mut history = History::new(seed);
-        for step in 0..30 {
-            history.step();
-            let desk = &history.desk;
-            for (what, totals) in wrong_totals(&mut random, desk) {
-                let read = tables::read(&desk.links, &Tables { totals, ..tables::of(desk) });
-                assert_eq!(read, Err(3), "seed {seed:#x}, step {step}: {what}");
-                *kinds.entry(what).or_insert(0) += 1;
-            }
+    each_desk(SEED, |desk, place| {
+        for (what, totals) in wrong_totals(&mut random, desk) {
+            let read = tables::read(&desk.links, &Tables { totals, ..tables::of(desk) });
+            assert_eq!(read, Err(3), "{place}: {what}");
+            *kinds.entry(what).or_insert(0) += 1;
         }
-    }
+    });
     println!("refused 3: {kinds:?}");
     assert!(kinds.len() == WRONG_TOTALS && kinds.values().all(|&count| count >= 50), "{kinds:?}");
 }
