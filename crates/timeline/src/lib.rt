@@ -10,7 +10,10 @@ ghost use Rattle.timeline.specs.Events.{row_at};
 ghost use Rattle.timeline.specs.EventTable.{only_clock};
 ghost use Rattle.timeline.specs.Insertion.{with_event, with_row, with_span, with_span_rows, Room};
 
+mod used;
+
 use units::{Minute, ROW};
+pub use used::UsedEvents;
 
 // The row that holds in a minute: that of the last event at or before it, or the first one where there is none.
 pub fn row_at(events: &[u32], minute: Minute) -> usize
