@@ -1,0 +1,160 @@
+-- Sets of numbers as bits: which numbers a union, a difference, one number alone and the rest without the lowest have.
+use mathlib.Core.Path.{◌≡◌, refl, sym, ◌∙◌, ap}
+use mathlib.Core.Logic.{◌≢◌}
+use mathlib.Core.Bool.{Bool, true, false, not, ◌&&◌, ◌||◌}
+use Prim.Native.Nat.{ℕ, zero, suc, ◌-◌, ◌*◌, ◌/◌, ◌%◌, ◌^◌, ◌<◌, min, max}
+use native.Mathlib.Decide.{ℕ_discrete, dec_lt}
+use native.Mathlib.Omega.{arith}
+use lib.Dec.{eqb}
+use borrow.Author.Tests.{eqb-true, eq-eqb, ne_eqb}
+use mir.Val.{bits}
+use Rattle.std.specs.Int.{Width, bit_at, bit_not, trailing_zeros}
+use Rattle.std.specs.Int.Bits.{bit_and, bit_or}
+use Rattle.std.proofs.lemmas.Nat.{one_shl, and_le_r}
+use Rattle.std.proofs.lemmas.Nat.Bits.{bit_at-zero, bit_at-suc, bit_at_lowest, bit_at-lt, bit_at_and, bit_at_or, bit_at_not, bit_at-pow_same, bit_at-pow_other, bit_at_above, bit_at-trailing_zeros, same_from_bits}
+use Rattle.units.specs.Sets.{has}
+use Rattle.units.proofs.Search.{clash}
+
+-- a number is in the set, or its bit is 0
+pub has_bit : (set i : ℕ) → has set i ≡ true → bit_at set i ≡ 1
+has_bit set i h = eqb-true (bit_at set i) 1 h
+
+pub has_no_bit : (set i : ℕ) → has set i ≡ false → bit_at set i ≡ 0
+has_no_bit set i h = elim (ℕ_discrete (bit_at set i) 1) [ yes e ↦ clash (eq-eqb (bit_at set i) 1 e) h | no d ↦ omega (arith, bit_at-lt set i) ]
+
+bit_has : (set i : ℕ) → bit_at set i ≡ 1 → has set i ≡ true
+bit_has set i e = eq-eqb (bit_at set i) 1 e
+
+no_bit_has_not : (set i : ℕ) → bit_at set i ≡ 0 → has set i ≡ false
+no_bit_has_not set i e = ne_eqb (bit_at set i) 1 (λ q. omega arith)
+
+module _ (x y : ℕ) (low_x : x < 2) (low_y : y < 2) where
+  test_min : eqb (min x y) 1 ≡ (eqb x 1 && eqb y 1)
+  test_min =
+      elim (ℕ_discrete x 1) [
+        | no d ↦ ne_eqb (min x y) 1 (λ e. omega arith) ∙ sym (ap (λ t. t && eqb y 1) (ne_eqb x 1 d))
+        | yes e ↦ ap (λ z. eqb z 1) (let s : min x y ≡ y = omega arith in s) ∙ sym (ap (λ t. t && eqb y 1) (eq-eqb x 1 e))
+      ]
+
+  test_max : eqb (max x y) 1 ≡ (eqb x 1 || eqb y 1)
+  test_max =
+      elim (ℕ_discrete x 1) [
+        | yes e ↦ eq-eqb (max x y) 1 (omega arith) ∙ sym (ap (λ t. t || eqb y 1) (eq-eqb x 1 e))
+        | no d ↦ ap (λ z. eqb z 1) (let s : max x y ≡ y = omega arith in s) ∙ sym (ap (λ t. t || eqb y 1) (ne_eqb x 1 d))
+      ]
+
+test_less : (x : ℕ) → x < 2 → eqb (1 - x) 1 ≡ not (eqb x 1)
+test_less x h =
+    elim (ℕ_discrete x 1) [
+      | yes e ↦ ne_eqb (1 - x) 1 (λ q. omega arith) ∙ sym (ap not (eq-eqb x 1 e))
+      | no d ↦ eq-eqb (1 - x) 1 (omega arith) ∙ sym (ap not (ne_eqb x 1 d))
+    ]
+
+-- what is in both, and in one of two
+pub has_and : (a b i : ℕ) → has (bit_and a b) i ≡ (has a i && has b i)
+has_and a b i = ap (λ x. eqb x 1) (bit_at_and a b i) ∙ test_min (bit_at a i) (bit_at b i) (bit_at-lt a i) (bit_at-lt b i)
+
+pub has_or : (a b i : ℕ) → has (bit_or a b) i ≡ (has a i || has b i)
+has_or a b i = ap (λ x. eqb x 1) (bit_at_or a b i) ∙ test_max (bit_at a i) (bit_at b i) (bit_at-lt a i) (bit_at-lt b i)
+
+-- nothing is in the empty set, and a set that has nothing is empty
+pub has_none : (i : ℕ) → has 0 i ≡ false
+has_none i = no_bit_has_not 0 i (bit_at-zero i)
+
+pub none_empty : (set : ℕ) → ((i : ℕ) → has set i ≡ false) → set ≡ 0
+none_empty set h = same_from_bits set 0 (λ i. has_no_bit set i (h i) ∙ sym (bit_at-zero i))
+
+-- two sets that have the same numbers
+pub same_set : (a b : ℕ) → ((i : ℕ) → has a i ≡ has b i) → a ≡ b
+same_set a b h = same_from_bits a b (λ i. by i (has b i) refl)
+  where
+    by : (i : ℕ) (t : Bool) → has b i ≡ t → bit_at a i ≡ bit_at b i
+    by i true e = has_bit a i (h i ∙ e) ∙ sym (has_bit b i e)
+    by i false e = has_no_bit a i (h i ∙ e) ∙ sym (has_no_bit b i e)
+
+-- a number alone, unbounded
+pub has_power : (k i : ℕ) → has (2 ^ k) i ≡ eqb i k
+has_power k i =
+    elim (ℕ_discrete i k) [
+      | yes e ↦ bit_has (2 ^ k) i (ap (bit_at (2 ^ k)) e ∙ bit_at-pow_same k) ∙ sym (eq-eqb i k e)
+      | no d ↦ no_bit_has_not (2 ^ k) i (bit_at-pow_other k i d) ∙ sym (ne_eqb i k d)
+    ]
+
+-- the lowest number t of a set
+pub record Lowest (set t : ℕ) : Type 0 where
+  pub in_set : has set t ≡ true
+  pub before : (i : ℕ) → i < t → has set i ≡ false
+
+-- without it
+lowest_off : (t set : ℕ) → bit_at set t ≡ 1 → ((i : ℕ) → i < t → bit_at set i ≡ 0) → (i : ℕ) → i ≢ t → min (bit_at set i) (bit_at (set - 1) i) ≡ bit_at set i
+lowest_off zero set h low zero apart = absurd (apart refl)
+lowest_off zero set h low (suc i) apart =
+    let odd : set % 2 ≡ 1 = sym (bit_at_lowest set) ∙ h in
+    let half : (set - 1) / 2 ≡ set / 2 = omega arith in
+    let same : bit_at (set - 1) (suc i) ≡ bit_at set (suc i) = bit_at-suc (set - 1) i ∙ ap (λ x. bit_at x i) half ∙ sym (bit_at-suc set i) in
+    omega arith
+lowest_off (suc t) set h low zero apart = let z = low 0 (omega arith) in omega arith
+lowest_off (suc t) set h low (suc i) apart =
+    let even : set % 2 ≡ 0 = sym (bit_at_lowest set) ∙ low 0 (omega arith) in
+    let top : bit_at (set / 2) t ≡ 1 = sym (bit_at-suc set t) ∙ h in
+    let some : 0 < set / 2 = elim (ℕ_discrete (set / 2) 0) [ yes e ↦ (let z : bit_at (set / 2) t ≡ 0 = ap (λ x. bit_at x t) e ∙ bit_at-zero t in absurd (omega arith)) | no d ↦ omega arith ] in
+    let half : (set - 1) / 2 ≡ set / 2 - 1 = omega arith in
+    let rest = lowest_off t (set / 2) top (λ j a. sym (bit_at-suc set j) ∙ low (suc j) (omega arith)) i (λ e. apart (ap suc e)) in
+    let here : bit_at set (suc i) ≡ bit_at (set / 2) i = bit_at-suc set i in
+    let less : bit_at (set - 1) (suc i) ≡ bit_at (set / 2 - 1) i = bit_at-suc (set - 1) i ∙ ap (λ x. bit_at x i) half in
+    omega arith
+
+lowest_gone : (t set : ℕ) → bit_at set t ≡ 1 → ((i : ℕ) → i < t → bit_at set i ≡ 0) → bit_at (set - 1) t ≡ 0
+lowest_gone zero set h low = let odd : set % 2 ≡ 1 = sym (bit_at_lowest set) ∙ h in let z = bit_at_lowest (set - 1) in omega arith
+lowest_gone (suc t) set h low =
+    let even : set % 2 ≡ 0 = sym (bit_at_lowest set) ∙ low 0 (omega arith) in
+    let top : bit_at (set / 2) t ≡ 1 = sym (bit_at-suc set t) ∙ h in
+    let some : 0 < set / 2 = elim (ℕ_discrete (set / 2) 0) [ yes e ↦ (let z : bit_at (set / 2) t ≡ 0 = ap (λ x. bit_at x t) e ∙ bit_at-zero t in absurd (omega arith)) | no d ↦ omega arith ] in
+    let half : (set - 1) / 2 ≡ set / 2 - 1 = omega arith in
+    bit_at-suc (set - 1) t ∙ ap (λ x. bit_at x t) half ∙ lowest_gone t (set / 2) top (λ j a. sym (bit_at-suc set j) ∙ low (suc j) (omega arith))
+
+module _ (set t : ℕ) (lowest : Lowest set t) where
+  bit_low : (i : ℕ) → i < t → bit_at set i ≡ 0
+  bit_low i h = has_no_bit set i (lowest.before i h)
+
+  -- `set & (set - 1)` is the rest without the lowest
+  pub has_rest : (i : ℕ) → has (bit_and set (set - 1)) i ≡ (has set i && not (eqb i t))
+  has_rest i =
+      elim (ℕ_discrete i t) [
+        | yes e ↦ no_bit_has_not (bit_and set (set - 1)) i (bit_at_and set (set - 1) i ∙ (let z : bit_at (set - 1) i ≡ 0 = ap (bit_at (set - 1)) e ∙ lowest_gone t set (has_bit set t lowest.in_set) bit_low in omega arith))
+            ∙ sym (ap (λ b. has set i && not b) (eq-eqb i t e) ∙ none (has set i))
+        | no d ↦ ap (λ x. eqb x 1) (bit_at_and set (set - 1) i ∙ lowest_off t set (has_bit set t lowest.in_set) bit_low i d)
+            ∙ sym (ap (λ b. has set i && not b) (ne_eqb i t d) ∙ all (has set i))
+      ]
+    where
+      none : (b : Bool) → (b && false) ≡ false
+      none true = refl
+      none false = refl
+
+      all : (b : Bool) → (b && true) ≡ b
+      all true = refl
+      all false = refl
+
+-- and is a smaller figure
+pub rest_less : (set : ℕ) → 0 < set → bit_and set (set - 1) < set
+rest_less set h = omega (arith, and_le_r set (set - 1))
+
+module _ (w : Width) where
+  -- `1 << k`: a number alone
+  pub has_one : (k i : ℕ) → k < bits w → has (1 * 2 ^ k % 2 ^ bits w) i ≡ eqb i k
+  has_one k i h = ap (λ s. has s i) (one_shl k (bits w) h) ∙ has_power k i
+
+  -- the numbers below the width that are not in the set
+  pub has_not : (set i : ℕ) → set < 2 ^ bits w → i < bits w → has (bit_not w set) i ≡ not (has set i)
+  has_not set i fits h = ap (λ x. eqb x 1) (bit_at_not w set i fits h) ∙ test_less (bit_at set i) (bit_at-lt set i)
+
+  -- a set has no number from the width on
+  pub has_below : (set i : ℕ) → set < 2 ^ bits w → has set i ≡ true → i < bits w
+  has_below set i fits h =
+      elim (dec_lt i (bits w)) [ yes c ↦ c | no c ↦ clash h (no_bit_has_not set i (bit_at_above set (bits w) i fits (omega arith))) ]
+
+  -- `trailing_zeros` is the lowest number of a set that is not empty
+  pub lowest_is : (set : ℕ) → 0 < set → set < 2 ^ bits w → (trailing_zeros w set < bits w) × Lowest set (trailing_zeros w set)
+  lowest_is set some fits =
+      let z = bit_at-trailing_zeros w set some fits in
+      (z.0, record { in_set = bit_has set (trailing_zeros w set) z.1; before = λ i h. no_bit_has_not set i (z.2 i h) })
