@@ -31,7 +31,8 @@ use Rattle.rebuild.proofs.RebuiltBook.{can_rebuild, events_anew, free_anew, tota
 use Rattle.changes.proofs.InOrder.{slot_inside, book_entered}
 use Rattle.rules.proofs.Fine.{sizes, book_obeys, links_are, events_are, free_are, totals_are}
 use Rattle.rules.proofs.Totals.{all_work_fits}
-use Rattle.totals.specs.Totals.{place_work, more_along, totals_of, AtMost, WorkRight}
+use Rattle.units.specs.Along.{more_along}
+use Rattle.totals.specs.Totals.{place_work, totals_of, AtMost, WorkRight}
 use Rattle.totals.proofs.Totals.{more_totals, totals_most}
 use Rattle.totals.proofs.Kept.{table_is, work_right}
 

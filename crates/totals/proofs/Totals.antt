@@ -16,10 +16,11 @@ use Rattle.book.specs.declared.Booking.{Booking as Place}
 use Rattle.book.specs.Places.{booking_in, place_path}
 use Rattle.rules.specs.Plain.{Booking, sold_by}
 use Rattle.rules.specs.Tables.{booking_of, booking_at}
-use Rattle.totals.specs.Totals.{place_work, more_along, totals_of, AtMost, WorkRight, CanTotal}
+use Rattle.units.specs.Along.{more_along}
+use Rattle.units.proofs.Along.{length_more, more_at}
+use Rattle.totals.specs.Totals.{place_work, totals_of, AtMost, WorkRight, CanTotal}
 use Rattle.rules.proofs.Totals.{WorkFits, sold_by_most}
 use Rattle.rules.proofs.Standing.{bookings_from, length_from, none_from, next_from}
-use Rattle.totals.proofs.Along.{length_more, more_at}
 
 pub length_sums : (bs : List Booking) → length (totals_of bs) ≡ most_totals
 length_sums bs = length-map (count_from 0 most_totals) (sold_by bs) ∙ length_count 0 most_totals

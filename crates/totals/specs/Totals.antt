@@ -8,13 +8,9 @@ use Rattle.book.specs.declared.Booking.{Booking as Place}
 use Rattle.book.specs.Places.{booking_in, place_path}
 use Rattle.rules.specs.Plain.{Booking, sold_by}
 
--- the work of a place's booking, and the totals with it added to each link of a path
+-- the work of a place's booking
 abbrev pub place_work : Place → ℕ
 place_work b = work_of b.bandwidth.0 b.duration.0
-
-unfoldable pub more_along : ℕ → List ℕ → List ℕ → List ℕ
-more_along x [] t = t
-more_along x (l ∷ ls) t = more_along x ls (set t l (get_or t l 0 + x))
 
 -- all totals of a list of bookings
 abbrev pub totals_of : List Booking → List ℕ

@@ -4,15 +4,16 @@
 
 ghost use Rattle.std.specs.Prelude.{◌≡◌, true, ◌↔◌, length};
 ghost use Rattle.units.specs.Limits.{most_totals, most_bookings};
+ghost use Rattle.units.specs.Along.{more_along};
 ghost use Rattle.book.specs.Places.{place_path};
 ghost use Rattle.rules.specs.Tables.{held_by};
-ghost use Rattle.totals.specs.Totals.{place_work, more_along, totals_of, AtMost, WorkRight, CanTotal};
+ghost use Rattle.totals.specs.Totals.{place_work, totals_of, AtMost, WorkRight, CanTotal};
 
 use book::{Booking, booking_at};
 use units::{Head, TOTALS, work_of};
 
 // Adds a booking's work to the total of each link of its path.
-#[tactic(auto, using(crate::proofs::Along::more_done))]
+#[tactic(auto, using(units::proofs::Along::more_done))]
 pub fn add_work(totals: &mut [u64], booking: Booking)
     requires right { WorkRight booking }
     requires sized { length totals.old ≡ most_totals }

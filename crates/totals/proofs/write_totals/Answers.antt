@@ -1,7 +1,8 @@
 -- `write_totals` meets its contract: at the loop's head the totals are those of the places from `place` on.
 use Rattle.std.proofs.Common.{sym, ap, ap₂, ◌∙◌, replicate, arith}
 use Rattle.book.specs.Places.{place_path}
-use Rattle.totals.specs.Totals.{place_work, more_along}
+use Rattle.units.specs.Along.{more_along}
+use Rattle.totals.specs.Totals.{place_work}
 use Rattle.totals.proofs.Totals.{no_totals, few_totals, totals_before}
 use Rattle.totals.proofs.write_totals.Goals as goal
 
