@@ -8,6 +8,7 @@ use native.Mathlib.Omega.{arith}
 use lib.ListN.{length, get_or, length-map}
 use Rattle.units.specs.declared.Link.{Link}
 use Rattle.units.specs.Limits.{most_links, most_totals, most_bookings}
+use Rattle.units.proofs.Tests.{if_so_most}
 use Rattle.units.specs.Lists.{if_so, member, sum, count_from, All}
 use Rattle.units.specs.Work.{work_of, most_work}
 use Rattle.units.proofs.Parts.{all_map}
@@ -46,10 +47,6 @@ work_fits links p b r = mul-le-mul r.bandwidth_right.1 r.duration_right.1
 
 pub all_work_fits : (links : List Link) (p : Plain) (bs : List Booking) → All (BookingRight links p) bs → All WorkFits bs
 all_work_fits links p = all_map (BookingRight links p) WorkFits (work_fits links p)
-
-pub if_so_most : (t : Bool) (x : ℕ) → if_so t x ≤ x
-if_so_most true x = omega arith
-if_so_most false x = omega arith
 
 pub sold_by_most : (bs : List Booking) → All WorkFits bs → (l : ℕ) → sold_by bs l ≤ length bs * most_work
 unfolding sum

@@ -1,4 +1,3 @@
 -- The laws that the proofs of this crate share.
-pub mod Along
 pub mod Totals
 pub mod Kept

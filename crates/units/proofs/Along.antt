@@ -1,8 +1,8 @@
 -- Along some places of a list: a loop one place further, and what it makes of each figure.
-use mathlib.Core.Path.{◌≡◌, refl, sym, ◌∙◌, ap}
+use mathlib.Core.Path.{◌≡◌, refl, sym, ◌∙◌, ap, subst}
 use mathlib.Core.List.{List, [], ◌∷◌, Memᴰ}
 use mathlib.Core.Bool.{Bool, true, false, ◌||◌, true≢false}
-use Prim.Native.Nat.{ℕ, ◌+◌, ◌-◌, ◌≤◌, ◌<◌}
+use Prim.Native.Nat.{ℕ, zero, suc, ◌+◌, ◌-◌, ◌*◌, ◌≤◌, ◌<◌}
 use native.Mathlib.Numerals.{add-one}
 use native.Mathlib.Omega.{arith}
 use lib.Dec.{eqb}
@@ -11,7 +11,7 @@ use lib.Seq.{drop-cons, get_or-set_same, get_or-set_other}
 use borrow.Author.Tests.{eq-eqb, ne_eqb, eqb-true}
 use Rattle.units.specs.Lists.{if_so, member, All, Distinct}
 use Rattle.units.specs.Along.{more_along, less_along}
-use Rattle.units.proofs.Tests.{Order, less, same, more, order, absent_test}
+use Rattle.units.proofs.Tests.{Order, less, same, more, order, absent_test, if_so_most}
 
 -- from place i of the path on
 module _ (x : ℕ) (path : List ℕ) (i : ℕ) (t : List ℕ) where
@@ -94,3 +94,47 @@ less_at x (l ∷ ls) t d a h j =
 
     absent_next : eqb j l ≡ true → member j ls ≡ false
     absent_next e = rw (eqb-true j l e) (absent_test l ls d.0)
+
+-- ---- a loop that adds to each place of a path, at place i: no figure grows past what one figure more allows
+pub record Adding (size n most x : ℕ) (path before : List ℕ) (i : ℕ) (t : List ℕ) : Type 0 where
+  pub rest : more_along x path before ≡ more_along x (drop i path) t
+  pub sized : length t ≡ size
+  pub few : (l : ℕ) → get_or t l 0 ≤ (n + i) * most
+
+module _ {size n most x : ℕ} {path before : List ℕ} {i : ℕ} {t : List ℕ} (a : Adding size n most x path before i t) where
+  pub added_one : x ≤ most → i < length path → get_or path i 0 < size → Adding size n most x path before (i + 1) (set t (get_or path i 0) (get_or t (get_or path i 0) 0 + x))
+  added_one fits inside there = record {
+    rest = a.rest ∙ more_next x path i t inside;
+    sized = length-set t (get_or path i 0) (get_or t (get_or path i 0) 0 + x) ∙ a.sized;
+    few = λ j. omega (arith, added_at t (get_or path i 0) (omega (arith, a.sized)) x j, if_so_most (eqb j (get_or path i 0)) x, a.few j);
+  }
+
+distinct_drop : (i : ℕ) (xs : List ℕ) → Distinct xs → Distinct (drop i xs)
+distinct_drop zero xs d = d
+distinct_drop (suc i) [] d = d
+distinct_drop (suc i) (x ∷ xs) d = distinct_drop i xs d.1
+
+-- ---- a loop that takes from each, at place i: the places that are left have enough
+pub record Taking (size x : ℕ) (path before : List ℕ) (i : ℕ) (t : List ℕ) : Type 0 where
+  pub rest : less_along x path before ≡ less_along x (drop i path) t
+  pub sized : length t ≡ size
+  pub enough : All (λ l. x ≤ get_or t l 0) (drop i path)
+
+module _ {size x : ℕ} {path before : List ℕ} {i : ℕ} {t : List ℕ} (a : Taking size x path before i t) (differ : Distinct path) (inside : i < length path) where
+  here : drop i path ≡ get_or path i 0 ∷ drop (i + 1) path
+  here = rw add-one (drop-cons path i 0 inside)
+
+  enough_here : All (λ l. x ≤ get_or t l 0) (get_or path i 0 ∷ drop (i + 1) path)
+  enough_here = subst (All (λ l. x ≤ get_or t l 0)) here a.enough
+
+  pub enough_now : x ≤ get_or t (get_or path i 0) 0
+  enough_now = enough_here.0
+
+  pub taken_one : get_or path i 0 < size → Taking size x path before (i + 1) (set t (get_or path i 0) (get_or t (get_or path i 0) 0 - x))
+  taken_one there =
+      let apart : Distinct (get_or path i 0 ∷ drop (i + 1) path) = subst Distinct here (distinct_drop i path differ) in
+      record {
+        rest = a.rest ∙ less_next x path i t inside;
+        sized = length-set t (get_or path i 0) (get_or t (get_or path i 0) 0 - x) ∙ a.sized;
+        enough = others_kept t (get_or path i 0) (omega (arith, a.sized)) x (get_or t (get_or path i 0) 0 - x) (drop (i + 1) path) apart.0 enough_here.1;
+      }

@@ -1,9 +1,9 @@
 -- `add_work` meets its contract: a link more is added to.
 use Rattle.std.proofs.Common.{arith, ◌<◌, length}
 use Rattle.units.specs.Limits.{most_totals}
+use Rattle.units.proofs.Along.{added_one}
 use Rattle.units.proofs.Parts.{all_get}
 use Rattle.book.specs.Places.{place_path}
-use Rattle.totals.proofs.Along.{added_one}
 use Rattle.totals.proofs.add_work.Goals as goal
 
 pub loop-link-preserved : goal.loop-link-preserved
