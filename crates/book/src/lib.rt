@@ -3,8 +3,8 @@
 #![tactic(auto)]
 
 ghost use Rattle.std.specs.Prelude.{◌≡◌, ◌++◌, ◌+◌, ◌*◌, ◌≤◌, length, drop};
-ghost use Rattle.units.specs.Limits.{place_size};
-ghost use Rattle.book.specs.Places.{booking_in, figures, with_booking};
+ghost use Rattle.units.specs.Limits.{place_size, most_hops};
+ghost use Rattle.book.specs.Places.{booking_in, place_path, figures, with_booking};
 
 use places::{DURATION, START, open_place};
 use units::{Bandwidth, Duration, Minute, PATH_LINKS, PLACE};
@@ -42,6 +42,18 @@ pub fn booking_at(book: &[u32], place: usize) -> Booking
         count: book[at + COUNT],
         links: *book[at + PATH..].first_chunk().unwrap(),
     }
+}
+
+// The links of the path of the booking at a place.
+pub fn path_at(book: &[u32], place: usize) -> &[u32]
+    requires sized { place * place_size + place_size ≤ length book.now }
+    requires short { (booking_in book.now place).count ≤ most_hops }
+    ensures { result.now ≡ place_path (booking_in book.now place) }
+{
+    let at = place * PLACE;
+    let count = book[at + COUNT] as usize;
+    let links = &book[at + PATH..at + PLACE];
+    &links[..count]
 }
 
 // Writes a booking over the first place of the part.

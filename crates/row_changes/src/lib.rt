@@ -1,27 +1,30 @@
 // What changes at each row of the events: the places of the book whose bookings begin to hold their links there and those that
 // release them, as sets; and whether the lent free figures are what these leave of the capacities, row by row. The soundness
-// check asks it. It writes no lent table, and keeps no table of its own but these sets.
+// check asks it. Nothing here writes a lent table.
 #![tactic(auto)]
 
-ghost use Rattle.std.specs.Prelude.{◌≡◌, ℕ, true, ◌↔◌, ◌+◌, ◌*◌, ◌≤◌, ◌<◌, length, get_or, set};
-ghost use Rattle.units.specs.Limits.{most_links, most_events, most_bookings};
+ghost use Rattle.std.specs.Prelude.{◌≡◌, ◌⊎◌, ℕ, true, ◌↔◌, ◌+◌, ◌*◌, ◌≤◌, ◌<◌, length, get_or};
+ghost use Rattle.std.specs.List.{list_all};
+ghost use Rattle.units.specs.Limits.{most_links, most_events, most_bookings, most_hops, most_bandwidth};
+ghost use Rattle.units.specs.Lists.{All, Distinct};
 ghost use Rattle.units.specs.Along.{more_along, less_along};
 ghost use Rattle.timeline.specs.Events.{row_at};
 ghost use Rattle.book.specs.Places.{booking_in, place_path};
-ghost use Rattle.row_changes.specs.Changes.{PlaceFits, BookFits, AtMost, Enough, Found, with_place, used_by, used_of, Marked, AllFound, Steps};
+ghost use Rattle.rules.specs.Tables.{held_by};
+ghost use Rattle.row_changes.specs.Changes.{RowsRight, PlaceFits, BookFits, start_row, end_row, Found, BothFound, with_place, Marks, used_by, Counted, AtMost, RowRight};
 
-use book::{Booking, booking_at};
+use book::{booking_at, path_at};
 use timeline::UsedEvents;
-use units::{EVENTS, Head, LINKS, Minute, ROW, release};
+use units::{Bandwidth, EVENTS, Head, LINKS, Link, Minute, ROW, column, release};
 
 // The places whose bookings begin to hold their links at each row, and those whose bookings release them there.
-#[derive(Clone, Copy)]
-pub struct RowChanges {
-    pub starts: [u64; EVENTS],
-    pub ends: [u64; EVENTS],
+struct RowChanges {
+    starts: [u64; EVENTS],
+    ends: [u64; EVENTS],
 }
 
 // Puts a place into the set of the row that holds in a minute. Whether the minute is an event, or before the clock.
+#[tactic(auto, using(timeline::proofs::Halving::inside))]
 fn mark(events: UsedEvents<'_>, sets: &mut [u64; EVENTS], place: usize, minute: Minute) -> bool
     requires few { length events.events.now ≤ most_events }
     requires small { place < most_bookings }
@@ -31,4 +34,78 @@ fn mark(events: UsedEvents<'_>, sets: &mut [u64; EVENTS], place: usize, minute: 
     let row = events.row_at(minute);
     sets[row] |= 1 << place;
     minute.0 <= events.events[row]
+}
+
+// Adds a bandwidth to what is taken of each link of a path.
+#[tactic(auto, using(units::proofs::Along::more_done))]
+fn take_path(taken: &mut [u32; LINKS], path: &[u32], bandwidth: Bandwidth)
+    requires path { All (λ l. l < most_links) path.now }
+    requires short { length path.now ≤ most_hops }
+    requires fits { bandwidth.0 ≤ most_bandwidth }
+    requires few { AtMost most_bookings taken.old }
+    ensures { taken.new ≡ more_along bandwidth.0 path.now taken.old }
+{
+    for &link in path {
+        taken[link as usize] += bandwidth.0;
+    }
+}
+
+// Takes it off again.
+#[tactic(auto, using(units::proofs::Along::less_done))]
+fn release_path(taken: &mut [u32; LINKS], path: &[u32], bandwidth: Bandwidth)
+    requires path { All (λ l. l < most_links) path.now }
+    requires differ { Distinct path.now }
+    requires enough { All (λ l. bandwidth.0 ≤ get_or taken.old l 0) path.now }
+    ensures { taken.new ≡ less_along bandwidth.0 path.now taken.old }
+{
+    for &link in path {
+        taken[link as usize] -= bandwidth.0;
+    }
+}
+
+// Adds what the bookings of a set of places use of each link.
+fn take_places(taken: &mut [u32; LINKS], head: Head, book: &[u32], places: u64)
+    requires fits { BookFits head book.now }
+    requires counted { Counted head places }
+    requires room { (l : ℕ) → get_or taken.old l 0 + used_by book.now places l ≤ most_bookings * most_bandwidth }
+    ensures { (l : ℕ) → get_or taken.new l 0 ≡ get_or taken.old l 0 + used_by book.now places l }
+{
+    let mut left = places;
+    while left != 0 {
+        let place = left.trailing_zeros() as usize;
+        let bandwidth = booking_at(book, place).bandwidth;
+        take_path(taken, path_at(book, place), bandwidth);
+        left &= left - 1;
+    }
+}
+
+// Takes it off again.
+fn release_places(taken: &mut [u32; LINKS], head: Head, book: &[u32], places: u64)
+    requires fits { BookFits head book.now }
+    requires counted { Counted head places }
+    requires enough { (l : ℕ) → used_by book.now places l ≤ get_or taken.old l 0 }
+    ensures { (l : ℕ) → get_or taken.new l 0 + used_by book.now places l ≡ get_or taken.old l 0 }
+{
+    let mut left = places;
+    while left != 0 {
+        let place = left.trailing_zeros() as usize;
+        let bandwidth = booking_at(book, place).bandwidth;
+        release_path(taken, path_at(book, place), bandwidth);
+        left &= left - 1;
+    }
+}
+
+// Whether in a row what each link has free and what is taken of it are its capacity. With no branch it is compiled for several
+// links at a time.
+#[inline(never)]
+fn row_right(capacities: &[u32; LINKS], taken: &[u32; LINKS], row: &[u32; ROW]) -> bool
+    ensures { (result ≡ true) ↔ RowRight capacities.now taken.now row.now }
+{
+    let mut right = true;
+    for link in 0..LINKS {
+        let within = taken[link] <= capacities[link];
+        let left = capacities[link].wrapping_sub(taken[link]);
+        right &= within & (left == row[link]);
+    }
+    right
 }

@@ -45,7 +45,8 @@ module _ (es : List ℕ) (u : Used es) (m : ℕ) where
         | no l ↦ omega (arith, not_behind 0 c ts m (suc r) (omega arith) (omega (arith, row_is)), ap (λ l. get_or l (suc r) 0) u)
       ]
 
-  inside : row_at es m < length es
+  -- the row is one of the events'
+  pub inside : row_at es m < length es
   unfolding c ts
   inside = omega (arith, row_is, row_below 0 c ts m, ap length u)
 

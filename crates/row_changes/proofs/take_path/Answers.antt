@@ -1,0 +1,12 @@
+-- `take_path` meets its contract: a link more is added to.
+use Rattle.std.proofs.Common.{arith, ◌<◌, length}
+use Rattle.units.specs.Limits.{most_links}
+use Rattle.units.proofs.Along.{added_one}
+use Rattle.units.proofs.Parts.{all_get}
+use Rattle.row_changes.proofs.take_path.Goals as goal
+
+pub loop-link-preserved : goal.loop-link-preserved
+loop-link-preserved c =
+    let path = c.args.path.now in
+    let inside : c.loop-link.link-index < length path = omega arith in
+    added_one c.loop-link.invariant c.requires.fits inside (all_get (λ l. l < most_links) path c.loop-link.link-index c.requires.path inside)
