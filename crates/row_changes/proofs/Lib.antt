@@ -1,3 +1,4 @@
 -- The laws that the proofs of this crate share.
 pub mod Sums
 pub mod Used
+pub mod Marked

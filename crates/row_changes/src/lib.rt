@@ -11,7 +11,7 @@ ghost use Rattle.units.specs.Along.{more_along, less_along};
 ghost use Rattle.timeline.specs.Events.{row_at};
 ghost use Rattle.book.specs.Places.{booking_in, place_path};
 ghost use Rattle.rules.specs.Tables.{held_by};
-ghost use Rattle.row_changes.specs.Changes.{RowsRight, PlaceFits, BookFits, start_row, end_row, Found, BothFound, with_place, Marks, used_by, Counted, AtMost, RowRight};
+ghost use Rattle.row_changes.specs.Changes.{RowsRight, PlaceFits, BookFits, start_row, end_row, Found, BothFound, with_place, Marks, used_by, Counted, StepRight, AtMost, RowRight};
 
 use book::{booking_at, path_at};
 use timeline::UsedEvents;
@@ -108,4 +108,30 @@ fn row_right(capacities: &[u32; LINKS], taken: &[u32; LINKS], row: &[u32; ROW]) 
         right &= within & (left == row[link]);
     }
     right
+}
+
+// Finds what changes at each row. Whether every end, and every start behind the clock, is an event.
+fn find_changes(
+    head: Head,
+    events: UsedEvents<'_>,
+    book: &[u32],
+    changes: &mut RowChanges,
+) -> bool
+    requires fits { BookFits head book.now }
+    requires few { length events.events.now ≤ most_events }
+    requires no_starts { (r : ℕ) → get_or changes.old.starts r 0 ≡ 0 }
+    requires no_ends { (r : ℕ) → get_or changes.old.ends r 0 ≡ 0 }
+    ensures found { (result ≡ true) ↔ ((i : ℕ) → i < head.bookings → BothFound head events.entry.events.now book.now i) }
+    ensures starts { Marks (start_row events.entry.events.now book.now) head.bookings changes.new.starts }
+    ensures ends { Marks (end_row head events.entry.events.now book.now) head.bookings changes.new.ends }
+{
+    let mut found = true;
+    for place in 0..head.bookings as usize {
+        let booking = booking_at(book, place);
+        let start = booking.start;
+        let end = Minute(release(head, start, booking.duration) as u32);
+        found &= mark(events, &mut changes.starts, place, start);
+        found &= mark(events, &mut changes.ends, place, end);
+    }
+    found
 }
