@@ -2,3 +2,4 @@
 pub mod Sums
 pub mod Used
 pub mod Marked
+pub mod Steps

@@ -90,6 +90,12 @@ AtMost n taken = (l : ℕ) → get_or taken l 0 ≤ n * most_bandwidth
 abbrev pub used_before : List ℕ → (ℕ → ℕ) → ℕ → ℕ → ℕ → ℕ
 used_before book row n r l = sum_below most_bookings (λ i. if_so (ltb i n && ltb (row i) r) (use_of book l i))
 
+abbrev pub begun : Head → List ℕ → List ℕ → ℕ → ℕ → ℕ
+begun head es book = used_before book (start_row es book) head.bookings
+
+abbrev pub ended : Head → List ℕ → List ℕ → ℕ → ℕ → ℕ
+ended head es book = used_before book (end_row head es book) head.bookings
+
 -- in a row what each link has free and what is taken of it are its capacity
 abbrev pub RowRight : List ℕ → List ℕ → List ℕ → Type 0
 RowRight capacities taken row = (l : ℕ) → l < most_links → get_or row l 0 + get_or taken l 0 ≡ get_or capacities l 0
@@ -98,6 +104,4 @@ RowRight capacities taken row = (l : ℕ) → l < most_links → get_or row l 0 
 -- capacity
 pub record StepRight (head : Head) (es capacities free book starts ends : List ℕ) (r : ℕ) : Type 0 where
   pub changed : (get_or starts r 0 ≡ 0) → (get_or ends r 0 ≡ 0) → r ≡ 0
-  pub figures_right : (l : ℕ) → l < most_links
-      → get_or free (r * most_links + l) 0 + used_before book (start_row es book) head.bookings (suc r) l
-      ≡ get_or capacities l 0 + used_before book (end_row head es book) head.bookings (suc r) l
+  pub figures_right : (l : ℕ) → l < most_links → get_or free (r * most_links + l) 0 + begun head es book (suc r) l ≡ get_or capacities l 0 + ended head es book (suc r) l

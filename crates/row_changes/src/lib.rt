@@ -111,12 +111,7 @@ fn row_right(capacities: &[u32; LINKS], taken: &[u32; LINKS], row: &[u32; ROW]) 
 }
 
 // Finds what changes at each row. Whether every end, and every start behind the clock, is an event.
-fn find_changes(
-    head: Head,
-    events: UsedEvents<'_>,
-    book: &[u32],
-    changes: &mut RowChanges,
-) -> bool
+fn find_changes(head: Head, events: UsedEvents<'_>, book: &[u32], changes: &mut RowChanges) -> bool
     requires fits { BookFits head book.now }
     requires few { length events.events.now ≤ most_events }
     requires no_starts { (r : ℕ) → get_or changes.old.starts r 0 ≡ 0 }
@@ -134,4 +129,46 @@ fn find_changes(
         found &= mark(events, &mut changes.ends, place, end);
     }
     found
+}
+
+// What is taken after a row, from what was before it.
+fn pass_row(taken: &mut [u32; LINKS], head: Head, book: &[u32], starts: u64, ends: u64)
+    requires fits { BookFits head book.now }
+    requires starts_counted { Counted head starts }
+    requires ends_counted { Counted head ends }
+    requires room { (l : ℕ) → get_or taken.old l 0 + used_by book.now starts l ≤ most_bookings * most_bandwidth }
+    requires enough { (l : ℕ) → used_by book.now ends l ≤ get_or taken.old l 0 + used_by book.now starts l }
+    ensures { (l : ℕ) → get_or taken.new l 0 + used_by book.now ends l ≡ get_or taken.old l 0 + used_by book.now starts l }
+{
+    take_places(taken, head, book, starts);
+    release_places(taken, head, book, ends);
+}
+
+// Whether something changes at each row behind the first, and each row's figures are what the changes up to it leave.
+fn steps_right(
+    head: Head,
+    events: UsedEvents<'_>,
+    capacities: &[u32; LINKS],
+    free: &[u32],
+    book: &[u32],
+    changes: &RowChanges,
+) -> bool
+    requires fits { BookFits head book.now }
+    requires few { length events.events.now ≤ most_events }
+    requires sized { length free.now ≡ most_events * most_links }
+    requires starts { Marks (start_row events.events.now book.now) head.bookings changes.now.starts }
+    requires ends { Marks (end_row head events.events.now book.now) head.bookings changes.now.ends }
+    ensures { (result ≡ true) ↔ ((r : ℕ) → r < length events.entry.events.now → StepRight head events.entry.events.now capacities.now free.now book.now changes.now.starts changes.now.ends r) }
+{
+    let mut right = true;
+    let mut taken = [0; LINKS];
+    for row in 0..events.events.len() {
+        let starts = changes.starts[row];
+        let ends = changes.ends[row];
+        pass_row(&mut taken, head, book, starts, ends);
+        let figures = free[row * ROW..].first_chunk().unwrap();
+        let changed = (row == 0) | (starts != 0) | (ends != 0);
+        right &= changed & row_right(capacities, &taken, figures);
+    }
+    right
 }

@@ -1,6 +1,6 @@
 -- `find_changes` meets its contract: a place more is put into the sets of its rows.
-use Rattle.std.proofs.Common.{◌≡◌, ◌<◌, ◌≤◌, ◌+◌, true, ℕ, length, rules, arith, ap, ap₂, ◌∙◌, subst, subst₂, sym}
-use Rattle.std.specs.Prelude.{◌↔◌, ◌&&◌}
+use Rattle.std.proofs.Common.{◌≡◌, ◌+◌, true, length, rules, arith, ap, ◌∙◌, subst, sym}
+use Rattle.std.specs.Prelude.{◌↔◌}
 use Rattle.units.specs.Spans.{span_of, release}
 use Rattle.timeline.specs.Events.{row_at}
 use Rattle.timeline.proofs.Halving.{inside}
@@ -22,10 +22,10 @@ loop-place-preserved c =
     let starts_long : length c.loop-place.changes.starts ≡ 129 = search rules in
     let ends_long : length c.loop-place.changes.ends ≡ 129 = search rules in (
       found_next (λ i. Found es (booking_in a.book.now i).start.0) (λ i. Found es (end_of a.head a.book.now i)) n _ _ _ i.0
-      (subst (λ m. (c.mark-found.result ≡ true) ↔ Found es m) start_is starts.found)
-      (subst (λ m. (c.mark-found-in-loop-place.result ≡ true) ↔ Found es m) end_is ends.found),
+          (subst (λ m. (c.mark-found.result ≡ true) ↔ Found es m) start_is starts.found)
+          (subst (λ m. (c.mark-found-in-loop-place.result ≡ true) ↔ Found es m) end_is ends.found),
       subst (Marks (start_row es a.book.now) (n + 1)) (sym (starts.marked ∙ ap (λ m. with_place (row_at es m) n c.loop-place.changes.starts) start_is))
-      (marked_next (start_row es a.book.now) n c.loop-place.changes.starts (omega (arith, inside es a.events.rising (booking_in a.book.now n).start.0, c.requires.few, starts_long)) i.1),
+          (marked_next (start_row es a.book.now) n c.loop-place.changes.starts (omega (arith, inside es a.events.rising (booking_in a.book.now n).start.0, c.requires.few, starts_long)) i.1),
       subst (Marks (end_row a.head es a.book.now) (n + 1)) (sym (ends.marked ∙ ap (λ m. with_place (row_at es m) n c.loop-place.changes.ends) end_is))
-      (marked_next (end_row a.head es a.book.now) n c.loop-place.changes.ends (omega (arith, inside es a.events.rising (end_of a.head a.book.now n), c.requires.few, ends_long)) i.2),
+          (marked_next (end_row a.head es a.book.now) n c.loop-place.changes.ends (omega (arith, inside es a.events.rising (end_of a.head a.book.now n), c.requires.few, ends_long)) i.2),
     )

@@ -1,7 +1,6 @@
 -- `find_changes` meets its contract: the places below `place` are in the sets of their rows.
-use Rattle.std.proofs.Common.{◌≡◌, ◌<◌, true, ℕ, length}
+use Rattle.std.proofs.Common.{◌≡◌, ◌<◌, true, ℕ}
 use Rattle.std.specs.Prelude.{◌↔◌}
-use Rattle.units.specs.Limits.{most_events}
 use Rattle.row_changes.specs.Changes.{start_row, end_row, BothFound, Marks}
 use Rattle.row_changes.proofs.find_changes.Given as goal
 
