@@ -3,3 +3,5 @@ pub mod Sums
 pub mod Used
 pub mod Marked
 pub mod Steps
+pub mod Counted
+pub mod Rows

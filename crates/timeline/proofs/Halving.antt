@@ -10,7 +10,7 @@ use Rattle.units.proofs.Tests.{Rising}
 use Rattle.timeline.specs.Events.{events, row_at}
 use Rattle.timeline.specs.EventTable.{Used}
 use Rattle.timeline.proofs.Events.{later_only}
-use Rattle.timeline.proofs.Places.{begun, not_behind, row_early, row_below}
+use Rattle.timeline.proofs.Places.{begun, not_behind, row_early, row_below, event_row, event_order}
 
 pub rising_used : (c : ℕ) (es : List ℕ) → Rising c es → Used (c ∷ es)
 rising_used c es r = ap (λ l. c ∷ l) (later_only c es es r (λ x h. refl))
@@ -49,6 +49,23 @@ module _ (es : List ℕ) (u : Used es) (m : ℕ) where
   pub inside : row_at es m < length es
   unfolding c ts
   inside = omega (arith, row_is, row_below 0 c ts m, ap length u)
+
+module _ (es : List ℕ) (u : Used es) where
+  -- a row's event is in its row, and the last at or before a minute is not after it
+  pub row_of_event : (r : ℕ) → r < length es → row_at es (get_or es r 0) ≡ r
+  unfolding c ts
+  row_of_event r h =
+      row_is es u (get_or es r 0)
+      ∙ ap (row_at (padded 0 (events (get_or es 0 0) (drop 1 es)))) (ap (λ l. get_or l r 0) u)
+      ∙ event_row 0 (get_or es 0 0) (drop 1 es) r (omega (arith, ap length u))
+
+  pub not_later : (m : ℕ) → get_or es 0 0 ≤ m → get_or es (row_at es m) 0 ≤ m
+  unfolding c ts
+  not_later m h = omega (arith, not_behind 0 (get_or es 0 0) (drop 1 es) m (row_at es m) h (omega (arith, row_is es u m)), ap (λ l. get_or l (row_at es m) 0) u)
+
+  pub order_of : (q r : ℕ) → q < r → r < length es → get_or es q 0 < get_or es r 0
+  order_of q r h k =
+      omega (arith, event_order 0 (get_or es 0 0) (drop 1 es) q r h (omega (arith, ap length u)), ap (λ l. get_or l q 0) u, ap (λ l. get_or l r 0) u)
 
 -- what halving has narrowed the row to: `left` rows from `row` on
 pub record Narrowed (es : List ℕ) (m row left : ℕ) : Type 0 where
