@@ -2,8 +2,7 @@
 use mathlib.Core.Path.{◌≡◌, refl, sym, ap, ap₂, ◌∙◌}
 use mathlib.Core.Logic.{◌⊎◌, inl, inr, ⊎_elim}
 use mathlib.Core.List.Memᴰ
-use mathlib.Core.List.{List, [], ◌∷◌, ◌++◌, map, flatten, Memᴰ}
-use mathlib.Core.Bool.{Bool, true, false, ◌&&◌}
+use mathlib.Core.List.{List, map, flatten, Memᴰ}
 use Prim.Native.Nat.{ℕ, zero, suc, ◌+◌, ◌-◌, ◌≤◌, ◌<◌}
 use native.Mathlib.Decide.{ℕ_discrete}
 use native.Mathlib.Omega.{arith}
@@ -11,7 +10,7 @@ use lib.Dec.{ltb}
 use borrow.Author.Tests.{lt-ltb, le-ltb}
 use Rattle.units.specs.declared.Head.{Head}
 use Rattle.units.specs.Lists.{if_so, sum, count_from}
-use Rattle.rules.specs.Plain.{Booking, Plain, until, times, uses, taken}
+use Rattle.rules.specs.Plain.{Plain, until, times, uses, taken}
 use Rattle.rules.specs.Tables.{booking_at, held_by}
 use Rattle.rules.proofs.Uses.{all_times}
 use Rattle.row_changes.specs.Changes.{sum_below}
@@ -76,9 +75,9 @@ module _ (p : Plain) (book : List ℕ) where
       ⊎_elim
       (λ e. record { place = i; from = omega arith; before = omega arith; is = inl e })
       (λ q. ⊎_elim
-          (λ e. record { place = i; from = omega arith; before = omega arith; is = inr e })
-          (λ r. (let t = time_found (suc i) n x r in record { place = t.place; from = omega (arith, t.from); before = omega (arith, t.before); is = t.is }))
-          (Memᴰ.cases_cons q))
+      (λ e. record { place = i; from = omega arith; before = omega arith; is = inr e })
+      (λ r. (let t = time_found (suc i) n x r in record { place = t.place; from = omega (arith, t.from); before = omega (arith, t.before); is = t.is }))
+      (Memᴰ.cases_cons q))
       (Memᴰ.cases_cons m)
 
   time_there : (i n x : ℕ) → TimeOf p book i n x → Memᴰ x (times_from i n)

@@ -2,8 +2,7 @@
 -- before a row and did not end is what is taken at its event.
 use mathlib.Core.Path.{◌≡◌, refl, sym, ap, ap₂, ◌∙◌, subst}
 use mathlib.Core.Logic.{◌⊎◌, ◌↔◌, ◌≢◌, inl, inr, ⊎_elim}
-use mathlib.Core.List.Memᴰ
-use mathlib.Core.List.{List, [], ◌∷◌, Memᴰ}
+use mathlib.Core.List.{List, ◌∷◌, Memᴰ}
 use mathlib.Core.Bool.{Bool, true, false, ◌&&◌, false≢true}
 use Prim.Native.Nat.{ℕ, zero, suc, ◌+◌, ◌-◌, ◌*◌, ◌≤◌, ◌<◌}
 use native.Mathlib.Nat.{le_antisymm}
@@ -18,19 +17,19 @@ use Rattle.units.specs.declared.Head.{Head}
 use Rattle.units.specs.Limits.{most_links, most_bookings}
 use Rattle.units.specs.Lists.{if_so, member}
 use Rattle.units.specs.Sets.{has}
-use Rattle.units.proofs.Sets.{none_empty}
+use Rattle.units.proofs.Sets.{has_none, none_empty}
 use Rattle.units.proofs.Parts.{member_at, place_of}
 use Rattle.units.proofs.Tests.{Side, below, above, side, member_tells, same_test}
-use Rattle.timeline.specs.Events.{row_at, events, later}
+use Rattle.timeline.specs.Events.{row_at, later}
 use Rattle.timeline.specs.EventTable.{Used}
 use Rattle.timeline.proofs.Events.{later_only, later_rises, member_later}
 use Rattle.timeline.proofs.Rows.{row_later}
 use Rattle.timeline.proofs.Halving.{inside, row_of_event, not_later, order_of}
 use Rattle.book.specs.Places.{booking_in, place_path}
-use Rattle.rules.specs.Plain.{Booking, Plain, until, uses, taken}
+use Rattle.rules.specs.Plain.{Plain, uses, taken, capacity}
 use Rattle.rules.specs.Tables.{booking_at, held_by, events_of}
 use Rattle.rules.proofs.Uses.{all_times}
-use Rattle.row_changes.specs.Changes.{BookFits, start_row, end_of, end_row, Found, BothFound, Marks, use_of, sum_below, begun, ended, StepRight, RowsRight}
+use Rattle.row_changes.specs.Changes.{start_row, end_of, end_row, Found, BothFound, Marks, use_of, begun, ended, StepRight, RowsRight}
 use Rattle.row_changes.proofs.Sums.{sum_same, sum_add}
 use Rattle.row_changes.proofs.Counted.{taken_counted, TimeOf, time_of, time_in}
 
@@ -50,9 +49,9 @@ held_split s e m w c order = by (side m e)
 some_place : (row : ℕ → ℕ) (n r : ℕ) → ((i : ℕ) × (i < n) × (row i ≡ r)) ⊎ ((i : ℕ) → i < n → row i ≢ r)
 some_place row zero r = inr (λ i h. absurd (omega arith))
 some_place row (suc n) r = elim (ℕ_discrete (row n) r) [
-    | yes e ↦ inl (n, omega arith, e)
-    | no d ↦ ⊎_elim (λ q. inl (q.0, omega (arith, q.1), q.2)) (λ none. inr (λ i h. elim (ℕ_discrete i n) [ yes e ↦ (λ z. d (ap row (sym e) ∙ z)) | no k ↦ none i (omega arith) ])) (some_place row n r)
-  ]
+  | yes e ↦ inl (n, omega arith, e)
+  | no d ↦ ⊎_elim (λ q. inl (q.0, omega (arith, q.1), q.2)) (λ none. inr (λ i h. elim (ℕ_discrete i n) [ yes e ↦ (λ z. d (ap row (sym e) ∙ z)) | no k ↦ none i (omega arith) ])) (some_place row n r)
+]
 
 module _ (es : List ℕ) (u : Used es) where
   -- a minute that is found is in row r or before it if and only if r's event is not before it
@@ -64,16 +63,16 @@ module _ (es : List ℕ) (u : Used es) where
         where
           later_event : get_or es r 0 < m
           later_event = elim (dec_lt (get_or es r 0) m) [
-              | yes e ↦ e
-              | no e ↦ absurd (let order = row_later m (get_or es r 0) es (omega arith) in omega (arith, order, row_of_event es u r h))
-            ]
+            | yes e ↦ e
+            | no e ↦ absurd (let order = row_later m (get_or es r 0) es (omega arith) in omega (arith, order, row_of_event es u r h))
+          ]
       by (above k) = rw (lt-ltb (row_at es m) (suc r) (omega arith)) (sym (le-leb m (get_or es r 0) in_time))
         where
           in_time : m ≤ get_or es r 0
           in_time = elim (ℕ_discrete (row_at es m) r) [
-              | yes e ↦ omega (arith, f, ap (λ k. get_or es k 0) e)
-              | no d ↦ omega (arith, f, order_of es u (row_at es m) r (omega arith) h)
-            ]
+            | yes e ↦ omega (arith, f, ap (λ k. get_or es k 0) e)
+            | no d ↦ omega (arith, f, order_of es u (row_at es m) r (omega arith) h)
+          ]
 
   module _ (head : Head) (book : List ℕ) (few : head.bookings ≤ most_bookings) where
     p : Plain
@@ -164,3 +163,81 @@ module _ (es : List ℕ) (u : Used es) where
                     (λ e. subst (λ m. Memᴰ m (drop 1 es)) (sym e) (found_event (booking_in book q.place).start.0 both.0 (omega (arith, e))))
                     (λ e. subst (λ m. Memᴰ m (drop 1 es)) (sym e) (found_event (end_of head book q.place) both.1 (omega (arith, e))))
                     q.is
+
+-- ---- and back: among the events of a book every start and end is found, and each but the first is one of them
+module _ (head : Head) (book es : List ℕ) (u : Used es) (same : es ≡ events_of (held_by head book)) where
+  clock_first : get_or es 0 0 ≡ head.clock.0
+  clock_first = ap (λ l. get_or l 0 0) same
+
+  behind : drop 1 es ≡ later head.clock.0 (all_times (held_by head book))
+  behind = ap (drop 1) same
+
+  early_found : (m : ℕ) → m ≤ head.clock.0 → Found es m
+  early_found m h = elim (ℕ_discrete (row_at es m) 0) [
+    | yes e ↦ omega (arith, clock_first, ap (λ k. get_or es k 0) e)
+    | no d ↦ omega (arith, clock_first, order_of es u 0 (row_at es m) (omega arith) (inside es u m))
+  ]
+
+  time_is_found : (m : ℕ) → Memᴰ m (all_times (held_by head book)) → Found es m
+  time_is_found m t = elim (dec_lt head.clock.0 m) [ no h ↦ early_found m (omega arith) | yes h ↦ late h ]
+    where
+      late : head.clock.0 < m → Found es m
+      late h =
+          let in_events = ap (member m) behind ∙ member_later m head.clock.0 (all_times (held_by head book)) h ∙ (member_tells m (all_times (held_by head book))).1 t in
+          let q = place_of (drop 1 es) m ((member_tells m (drop 1 es)).0 in_events) in
+          let event : get_or es (suc q.0) 0 ≡ m = sym (get_or-drop 1 es q.0 0 ∙ (let e : 1 + q.0 ≡ suc q.0 = omega arith in ap (λ k. get_or es k 0) e)) ∙ q.2 in
+          let row : row_at es m ≡ suc q.0 = ap (row_at es) (sym event) ∙ row_of_event es u (suc q.0) (omega (arith, q.1, length-drop 1 es)) in
+          omega (arith, event, ap (λ k. get_or es k 0) row)
+
+  pub all_found : (i : ℕ) → i < head.bookings → BothFound head es book i
+  all_found i h = (
+    time_is_found (booking_in book i).start.0 (time_in head book (booking_in book i).start.0 (record { place = i; from = omega arith; before = omega arith; is = inl refl })),
+    time_is_found (end_of head book i) (time_in head book (end_of head book i) (record { place = i; from = omega arith; before = omega arith; is = inr refl })),
+  )
+
+  pub all_changed : (starts ends : List ℕ) → Marks (start_row es book) head.bookings starts → Marks (end_row head es book) head.bookings ends
+      → (r : ℕ) → r < length es → (get_or starts r 0 ≡ 0) → (get_or ends r 0 ≡ 0) → r ≡ 0
+  all_changed starts ends begin stop r h no_starts no_ends = elim (ℕ_discrete r 0) [ yes e ↦ e | no d ↦ absurd (some (omega arith)) ]
+    where
+      is_time : 0 < r → Memᴰ (get_or es r 0) (all_times (held_by head book))
+      is_time k =
+          let after : head.clock.0 < get_or es r 0 = omega (arith, clock_first, order_of es u 0 r k h) in
+          let back : 1 + (r - 1) ≡ r = omega arith in
+          let there : Memᴰ (get_or es r 0) (drop 1 es) = subst (λ x. Memᴰ x (drop 1 es)) (get_or-drop 1 es (r - 1) 0 ∙ ap (λ k. get_or es k 0) back) (member_at (drop 1 es) (r - 1) (omega (arith, length-drop 1 es))) in
+          (member_tells (get_or es r 0) (all_times (held_by head book))).0
+          (sym (member_later (get_or es r 0) head.clock.0 (all_times (held_by head book)) after) ∙ sym (ap (member (get_or es r 0)) behind) ∙ (member_tells (get_or es r 0) (drop 1 es)).1 there)
+
+      -- a place whose row r is stands in its set
+      stands : (row : ℕ → ℕ) (sets : List ℕ) → Marks row head.bookings sets → get_or sets r 0 ≡ 0 → (i : ℕ) → i < head.bookings → row i ≡ r → ⊥
+      stands row sets marks none i k e =
+          false≢true (sym (ap (λ s. has s i) none ∙ has_none i) ∙ marks r i ∙ ap₂ ◌&&◌ (lt-ltb i head.bookings k) (eq-eqb (row i) r e))
+
+      some : 0 < r → ⊥
+      some k =
+          let q = time_of head book (get_or es r 0) (is_time k) in
+          ⊎_elim
+          (λ e. stands (start_row es book) starts begin no_starts q.place (omega (arith, q.before)) (ap (row_at es) (sym e) ∙ row_of_event es u r h))
+          (λ e. stands (end_row head es book) ends stop no_ends q.place (omega (arith, q.before)) (ap (row_at es) (sym e) ∙ row_of_event es u r h))
+          q.is
+
+-- ---- the whole check
+
+pub not_found : (links : List Link) (head : Head) (book es free : List ℕ) → Used es → ¬ ((i : ℕ) → i < head.bookings → BothFound head es book i) → ¬ RowsRight links (held_by head book) es free
+not_found links head book es free u h r = h (all_found head book es u r.events_are)
+
+module _ (links : List Link) (head : Head) (book es free capacities : List ℕ) (u : Used es) (clock : get_or es 0 0 ≡ head.clock.0) (few : head.bookings ≤ most_bookings)
+    (columns : (l : ℕ) → l < most_links → get_or capacities l 0 ≡ capacity links l) where
+  module _ (found : (i : ℕ) → i < head.bookings → BothFound head es book i) (starts ends : List ℕ)
+      (begin : Marks (start_row es book) head.bookings starts) (stop : Marks (end_row head es book) head.bookings ends) where
+    pub rows_tell : ((r : ℕ) → r < length es → StepRight head es capacities free book starts ends r) ↔ RowsRight links (held_by head book) es free
+    rows_tell = ((λ steps. record { events_are = events_right es u head book few found clock starts ends begin stop (λ r h. (steps r h).changed); figures_are = so steps }), back)
+      where
+        so : ((r : ℕ) → r < length es → StepRight head es capacities free book starts ends r)
+            → (r l : ℕ) → r < length es → l < most_links → get_or free (r * most_links + l) 0 + taken (held_by head book) l (get_or es r 0) ≡ capacity links l
+        so steps r l h k = omega (arith, (steps r h).figures_right l k, taken_at es u head book few found r l h, columns l k)
+
+        back : RowsRight links (held_by head book) es free → (r : ℕ) → r < length es → StepRight head es capacities free book starts ends r
+        back right r h = record {
+          changed = all_changed head book es u right.events_are starts ends begin stop r h;
+          figures_right = λ l k. omega (arith, right.figures_are r l h k, taken_at es u head book few found r l h, columns l k);
+        }

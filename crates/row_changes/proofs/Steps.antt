@@ -79,7 +79,7 @@ ended_begun head es book r l =
 pub record Taken (head : Head) (es book : List ℕ) (r : ℕ) (taken : List ℕ) : Type 0 where
   pub sum : (l : ℕ) → get_or taken l 0 + ended head es book r l ≡ begun head es book r l
 
-zeros_at : (n l : ℕ) → get_or {A = ℕ} (replicate n 0) l 0 ≡ 0
+pub zeros_at : (n l : ℕ) → get_or {A = ℕ} (replicate n 0) l 0 ≡ 0
 zeros_at zero l = refl
 zeros_at (suc n) zero = refl
 zeros_at (suc n) (suc l) = zeros_at n l

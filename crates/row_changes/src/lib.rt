@@ -18,6 +18,7 @@ use timeline::UsedEvents;
 use units::{Bandwidth, EVENTS, Head, LINKS, Link, Minute, ROW, column, release};
 
 // The places whose bookings begin to hold their links at each row, and those whose bookings release them there.
+#[derive(Clone, Copy)]
 struct RowChanges {
     starts: [u64; EVENTS],
     ends: [u64; EVENTS],
@@ -171,4 +172,31 @@ fn steps_right(
         right &= changed & row_right(capacities, &taken, figures);
     }
     right
+}
+
+// Whether the used events are those of a head and its book, and in each row what each link has free and what the bookings take of
+// it then are its capacity. A link that is oversold is not.
+pub fn rows_right(
+    head: Head,
+    links: &[Link],
+    events: UsedEvents<'_>,
+    free: &[u32],
+    book: &[u32],
+) -> bool
+    requires fits { BookFits head book.now }
+    requires few_links { length links.now ≤ most_links }
+    requires few { length events.events.now ≤ most_events }
+    requires clock { get_or events.events.now 0 0 ≡ head.clock.0 }
+    requires sized { length free.now ≡ most_events * most_links }
+    ensures { (result ≡ true) ↔ RowsRight links.now (held_by head book.now) events.entry.events.now free.now }
+{
+    let mut changes = RowChanges {
+        starts: [0; EVENTS],
+        ends: [0; EVENTS],
+    };
+    if !find_changes(head, events, book, &mut changes) {
+        return false;
+    }
+    let capacities = column(links, |link| link.capacity.0);
+    steps_right(head, events, &capacities, free, book, &changes)
 }

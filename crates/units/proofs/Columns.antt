@@ -44,6 +44,23 @@ module _ (f : Link → ℕ) where
   unfolding column
   column_at xs i d l g = at most_links most_links xs i d l g
 
+  zero_at : (n m i : ℕ) → get_or (take {A = ℕ} n (replicate m 0)) i 0 ≡ 0
+  zero_at zero m i = refl
+  zero_at (suc n) zero i = refl
+  zero_at (suc n) (suc m) zero = refl
+  zero_at (suc n) (suc m) (suc i) = zero_at n m i
+
+  at_any : (n m : ℕ) (xs : List Link) (i : ℕ) (d : Link) → f d ≡ 0 → i < n → get_or (take n (map f xs ++ replicate m 0)) i 0 ≡ f (get_or xs i d)
+  at_any n m [] i d z l = zero_at n m i ∙ sym z
+  at_any zero m (x ∷ xs) i d z l = absurd (not-suc-le-zero l)
+  at_any (suc n) m (x ∷ xs) zero d z l = refl
+  at_any (suc n) m (x ∷ xs) (suc i) d z l = at_any n m xs i d z (le_of_suc-le-suc l)
+
+  -- also past the last link, where what stands there has a zero
+  pub column_any : (xs : List Link) (i : ℕ) (d : Link) → f d ≡ 0 → i < most_links → get_or (column f xs) i 0 ≡ f (get_or xs i d)
+  unfolding column
+  column_any xs i d z l = at_any most_links most_links xs i d z l
+
   pub column_step : (xs : List Link) (k : ℕ) (d : Link) → k < most_links → k < length xs → set (column f (take k xs)) k (f (get_or xs k d)) ≡ column f (take (suc k) xs)
   unfolding column
   column_step xs k d l g = step most_links most_links k xs d (omega arith) l g
