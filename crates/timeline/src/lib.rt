@@ -13,7 +13,7 @@ ghost use Rattle.timeline.specs.Insertion.{with_event, with_row, with_span, with
 mod used;
 
 use units::{Minute, ROW};
-pub use used::UsedEvents;
+pub use used::{UsedEvents, rising};
 
 // The row that holds in a minute: that of the last event at or before it, or the first one where there is none.
 pub fn row_at(events: &[u32], minute: Minute) -> usize

@@ -1,6 +1,7 @@
 // The used events of a table, as they are lent for reading.
 
-ghost use Rattle.timeline.specs.EventTable.{Used};
+ghost use Rattle.std.specs.Prelude.{◌≡◌, ◌<◌, length};
+ghost use Rattle.timeline.specs.EventTable.{Used, rising_part};
 
 use units::Minute;
 
@@ -30,5 +31,20 @@ impl UsedEvents<'_> {
             left -= half;
         }
         row
+    }
+}
+
+// The events of a table that rise from its first on.
+#[tactic(auto)]
+pub fn rising(events: &[u32]) -> UsedEvents<'_>
+    requires { 0 < length events.now }
+    ensures { result.events.now ≡ rising_part events.now }
+{
+    let mut rows = 1;
+    while rows < events.len() && events[rows - 1] < events[rows] {
+        rows += 1;
+    }
+    UsedEvents {
+        events: &events[..rows],
     }
 }
