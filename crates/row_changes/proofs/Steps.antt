@@ -4,7 +4,7 @@ use mathlib.Core.List.{List}
 use Rattle.std.proofs.Math.Bool.{or-true}
 use mathlib.Core.Bool.{Bool, true, false, ◌&&◌, ◌||◌, not, false≢true, and-eq-true_iff}
 use mathlib.Core.Logic.{◌↔◌}
-use Prim.Native.Nat.{ℕ, zero, suc, ◌+◌, ◌*◌, ◌≤◌, ◌<◌}
+use Prim.Native.Nat.{ℕ, suc, ◌+◌, ◌*◌, ◌≤◌, ◌<◌}
 use native.Mathlib.Decide.{ℕ_discrete}
 use native.Mathlib.Omega.{arith}
 use lib.Dec.{eqb, ltb}
@@ -14,6 +14,7 @@ use Rattle.units.specs.declared.Head.{Head}
 use Rattle.units.specs.Limits.{most_links, most_bookings, most_bandwidth}
 use Rattle.units.specs.Lists.{if_so, member}
 use Rattle.units.specs.Sets.{has}
+use Rattle.units.proofs.Padded.{fill_at}
 use Rattle.units.proofs.Tests.{Order, less, same, more, order, Side, below, above, side, if_so_most}
 use Rattle.timeline.proofs.Rows.{row_later}
 use Rattle.book.specs.Places.{booking_in, place_path}
@@ -79,14 +80,9 @@ ended_begun head es book r l =
 pub record Taken (head : Head) (es book : List ℕ) (r : ℕ) (taken : List ℕ) : Type 0 where
   pub sum : (l : ℕ) → get_or taken l 0 + ended head es book r l ≡ begun head es book r l
 
-pub zeros_at : (n l : ℕ) → get_or {A = ℕ} (replicate n 0) l 0 ≡ 0
-zeros_at zero l = refl
-zeros_at (suc n) zero = refl
-zeros_at (suc n) (suc l) = zeros_at n l
-
 pub none_taken : {head : Head} {es book : List ℕ} → BookFits head book → (n : ℕ) → Taken head es book 0 (replicate n 0)
 none_taken {head} {es} {book} fits n = record {
-  sum = λ l. omega (arith, zeros_at n l, used_none head book fits (end_row head es book) l, used_none head book fits (start_row es book) l);
+  sum = λ l. omega (arith, fill_at {E = ℕ} 0 n l, used_none head book fits (end_row head es book) l, used_none head book fits (start_row es book) l);
 }
 
 module _ {head : Head} {es book taken : List ℕ} {r : ℕ} (starts ends : List ℕ) (fits : BookFits head book)

@@ -1,6 +1,6 @@
 -- What the bookings of a set of places use: one place of the set after the other, added or taken off.
 use mathlib.Core.Path.{◌≡◌, refl, sym, ap, ◌∙◌}
-use mathlib.Core.List.{List, [], ◌∷◌, Memᴰ}
+use mathlib.Core.List.{List}
 use mathlib.Core.Bool.{Bool, true, false, ◌&&◌, not}
 use Prim.Native.Nat.{ℕ, zero, suc, ◌+◌, ◌-◌, ◌^◌, ◌≤◌, ◌<◌}
 use native.Mathlib.Omega.{arith}
@@ -17,14 +17,11 @@ use Rattle.units.specs.Sets.{has}
 use Rattle.units.specs.Along.{more_along, less_along}
 use Rattle.units.proofs.Along.{length_more, length_less, more_at, less_at}
 use Rattle.units.proofs.Sets.{has_none, has_rest, lowest_is, Lowest}
+use Rattle.units.proofs.Parts.{all_in}
 use Rattle.units.proofs.Tests.{member_tells}
 use Rattle.book.specs.Places.{booking_in, place_path}
 use Rattle.row_changes.specs.Changes.{PlaceFits, BookFits, use_of, sum_below, used_by, Counted}
 use Rattle.row_changes.proofs.Sums.{sum_one}
-
-all_in : (P : ℕ → Type 0) (ls : List ℕ) → ((l : ℕ) → Memᴰ l ls → P l) → All P ls
-all_in P [] h = tt
-all_in P (l ∷ ls) h = (h l (Memᴰ.head refl), all_in P ls (λ m k. h m (Memᴰ.tail k)))
 
 -- the sum over a set is its lowest term and the sum over the rest
 pub sum_rest : (set i : ℕ) (f : ℕ → ℕ) → Lowest set i → i < most_bookings

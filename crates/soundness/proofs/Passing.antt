@@ -2,17 +2,15 @@
 use mathlib.Core.Path.{◌≡◌, sym, ap}
 use mathlib.Core.List.{List}
 use mathlib.Core.Bool.{true, false}
-use Prim.Native.Nat.{ℕ, ◌≤◌, ◌<◌}
+use Prim.Native.Nat.{◌≤◌}
 use lib.ListN.{length}
 use Rattle.units.specs.declared.Link.{Link}
 use Rattle.units.specs.Limits.{most_bookings, last_minute, most_guard}
-use Rattle.units.proofs.Parts.{all_of}
 use Rattle.units.proofs.Search.{not_true}
-use Rattle.rules.specs.Plain.{taken, capacity}
-use Rattle.rules.specs.Tables.{Tables, tables, held, events_of, totals_table, links_ok, sound}
+use Rattle.rules.specs.Tables.{Tables, tables, held, totals_table, links_ok, sound}
 use Rattle.soundness.specs.Checking.{book_ok, FiguresRight}
 use Rattle.rules.proofs.Tests.{links_tell}
-use Rattle.rules.proofs.Obeys.{sound_facts, sound_test, sound_obeys, held_count}
+use Rattle.rules.proofs.Obeys.{sound_facts, sound_test, held_count}
 use Rattle.soundness.proofs.Tidy.{BookRight, book_tells}
 
 pub record Checked (links : List Link) (t : Tables) : Type 0 where
@@ -35,7 +33,7 @@ module _ (links : List Link) (t : Tables) where
     count_right = c.few_bookings;
     in_order = book.0.0;
     bookings_right = book.0.1;
-    not_oversold = all_of (λ m. (l : ℕ) → l < length links → taken (held t) l m ≤ capacity links l) (λ m l h. c.figures_right.not_oversold l m h) (events_of (held t));
+    not_oversold = c.figures_right.not_oversold;
     tables_are = all_same;
   })
     where
@@ -64,7 +62,7 @@ module _ (links : List Link) (t : Tables) where
         book_right = (book_tells links t.book (held t)).1 ((s.in_order, s.bookings_right), ap (λ x. x.book) s.tables_are);
         totals_right = ap (λ x. x.totals) s.tables_are;
         figures_right = record {
-          not_oversold = (sound_obeys links t e).not_oversold;
+          not_oversold = s.not_oversold;
           events_are = ap (λ x. x.events) s.tables_are;
           free_are = ap (λ x. x.free) s.tables_are;
         };

@@ -36,7 +36,7 @@ all_zeros_tell (x ∷ l) =
       λ e. t.1 ((cc), (cc)),
     )
 
-zeros_tell : (i : ℕ) (l : List ℕ) → Tells (all_zero (drop i l)) (drop i l ≡ replicate (length l - i) 0)
+pub zeros_tell : (i : ℕ) (l : List ℕ) → Tells (all_zero (drop i l)) (drop i l ≡ replicate (length l - i) 0)
 zeros_tell i l = subst (λ n. Tells (all (λ x. eqb x 0) (drop i l)) (drop i l ≡ replicate n 0)) (length-drop i l) (all_zeros_tell (drop i l))
 
 -- ---- a place

@@ -10,8 +10,7 @@ ghost use Rattle.rules.specs.Plain.{graph};
 ghost use Rattle.rules.specs.Tables.{booking_ok, booking_of, held, held_by, sized, sound};
 ghost use Rattle.lent.specs.Lent.{tables_in};
 ghost use Rattle.book.specs.Places.{place_path};
-ghost use Rattle.rebuild.specs.Rebuilding.{CanRebuild};
-ghost use Rattle.soundness.specs.Checking.{all_zero, tidy, book_ok, FiguresRight, BookFits};
+ghost use Rattle.soundness.specs.Checking.{all_zero, tidy, book_ok, FiguresRight, BookFits, CanCompare};
 
 mod checked;
 
@@ -20,11 +19,11 @@ use checked::CheckedLinks;
 use lent::LentTables;
 use limits::{guard_ok, links_right, number_ok};
 use path_search::NODES;
-use rebuild::rebuild;
+use row_changes::rows_right;
+use timeline::rising;
 use totals::totals_right;
 use units::{
-    BOOKINGS, EVENTS, FREE_FIGURES, Head, MAX_BANDWIDTH, MAX_DURATION, MAX_MINUTE, PATH_LINKS,
-    PLACE, release,
+    BOOKINGS, Head, MAX_BANDWIDTH, MAX_DURATION, MAX_MINUTE, PATH_LINKS, PLACE, ROW, release,
 };
 
 // Whether a booking's path has a link, each begins where the one before ended, and no node is met twice.
@@ -69,11 +68,15 @@ fn booking_right(head: Head, links: CheckedLinks<'_>, booking: Booking) -> bool
         && (head.clock.0 as u64) < release(head, booking.start, booking.duration)
 }
 
-// Whether every figure is zero.
+// Whether every figure is zero. With no branch it is compiled for several figures at a time.
 fn all_zero(figures: &[u32]) -> bool
     ensures { result ≡ all_zero figures.now }
 {
-    figures.iter().all(|&figure| figure == 0)
+    let mut zero = true;
+    for &figure in figures {
+        zero &= figure == 0;
+    }
+    zero
 }
 
 // Whether a booking's path has at most thirty-one links, and zeros past its last.
@@ -104,19 +107,21 @@ fn book_right(head: Head, links: CheckedLinks<'_>, book: &[u32]) -> bool
 
 // Whether no link is oversold, and events and free figures are the ones that links, clock, guard and book give.
 fn figures_right(tables: &LentTables<'_>) -> bool
-    requires { CanRebuild tables.now.links.now tables.now.head tables.now.book.now tables.now.events.now tables.now.free.now }
+    requires { CanCompare tables.now.links.now tables.now.head tables.now.book.now tables.now.events.now tables.now.free.now }
     ensures { (result ≡ true) ↔ FiguresRight tables.now.links.now (held (tables_in tables.now)) tables.now.events.now tables.now.free.now }
 {
-    let mut events = [0; EVENTS];
-    let mut free = [0; FREE_FIGURES];
-    rebuild(
-        tables.head,
-        tables.links,
-        &mut events,
-        &mut free,
-        tables.book,
-    ) && tables.events == events.as_slice()
-        && tables.free == free.as_slice()
+    let events = rising(tables.events);
+    let rows = events.events.len();
+    if tables.events[0] != tables.head.clock.0 {
+        return false;
+    }
+    if !all_zero(&tables.events[rows..]) {
+        return false;
+    }
+    if !all_zero(&tables.free[rows * ROW..]) {
+        return false;
+    }
+    rows_right(tables.head, tables.links, events, tables.free, tables.book)
 }
 
 // Document 01's 'sound', of tables that have the right sizes.

@@ -8,7 +8,10 @@ use lib.ListN.{length, get_or, take, drop, replicate, drop_of_length-le}
 use lib.Seq.{drop-cons}
 use borrow.Author.Tests.{lt-ltb, le-ltb}
 use Rattle.units.proofs.Tests.{Rising, Side, below, above, side}
+use Rattle.units.specs.Lists.{padded}
+use Rattle.timeline.specs.Events.{events, later}
 use Rattle.timeline.specs.EventTable.{Used, rising_from, rising_part}
+use Rattle.timeline.proofs.Events.{later_rises}
 use Rattle.timeline.proofs.Halving.{rising_used}
 
 -- one more that rises, or one that doesn't
@@ -41,10 +44,35 @@ unfolding rising_from
 zeros_stop c zero = refl
 zeros_stop c (suc k) = from_stop c 0 (replicate k 0) (omega arith)
 
-pub from_rising : (c k : ℕ) (es : List ℕ) → Rising c es → rising_from c (es ++ replicate k 0) ≡ es
+from_rising : (c k : ℕ) (es : List ℕ) → Rising c es → rising_from c (es ++ replicate k 0) ≡ es
 unfolding rising_from
 from_rising c k [] r = zeros_stop c k
 from_rising c k (e ∷ es) r = from_more c e (es ++ replicate k 0) r.0 ∙ ap (λ l. e ∷ l) (from_rising e k es r.1)
+
+-- the part stands first, with the rest behind it
+from_split : (c : ℕ) (es : List ℕ) → rising_from c es ++ drop (length (rising_from c es)) es ≡ es
+unfolding rising_from
+from_split c [] = refl
+from_split c (e ∷ es) = by (side c e) (from_split e es)
+  where
+    by : Side c e → rising_from e es ++ drop (length (rising_from e es)) es ≡ es → rising_from c (e ∷ es) ++ drop (length (rising_from c (e ∷ es))) (e ∷ es) ≡ e ∷ es
+    by (below h) ih = rw (from_more c e es h) (ap (λ l. e ∷ l) ih)
+    by (above h) ih = rw (from_stop c e es h) refl
+
+pub part_split : (es : List ℕ) → rising_part es ++ drop (length (rising_part es)) es ≡ es
+unfolding rising_part
+part_split [] = refl
+part_split (c ∷ es) = ap (λ l. c ∷ l) (from_split c es)
+
+pub part_first : (es : List ℕ) → get_or (rising_part es) 0 0 ≡ get_or es 0 0
+unfolding rising_part
+part_first [] = refl
+part_first (c ∷ es) = refl
+
+-- that of events with zeros behind them
+pub part_events : (n c : ℕ) (ts : List ℕ) → rising_part (padded n (events c ts)) ≡ events c ts
+unfolding rising_part
+part_events n c ts = ap (λ l. c ∷ l) (from_rising c (n - length (events c ts)) (later c ts) (later_rises c ts))
 
 -- ---- the loop, behind the first `rows`
 pub record Risen (es : List ℕ) (rows : ℕ) : Type 0 where

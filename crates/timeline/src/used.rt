@@ -1,6 +1,6 @@
 // The used events of a table, as they are lent for reading.
 
-ghost use Rattle.std.specs.Prelude.{◌≡◌, ◌<◌, length};
+ghost use Rattle.std.specs.Prelude.{◌≡◌, ◌≤◌, ◌<◌, length};
 ghost use Rattle.timeline.specs.EventTable.{Used, rising_part};
 
 use units::Minute;
@@ -38,7 +38,8 @@ impl UsedEvents<'_> {
 #[tactic(auto)]
 pub fn rising(events: &[u32]) -> UsedEvents<'_>
     requires { 0 < length events.now }
-    ensures { result.events.now ≡ rising_part events.now }
+    ensures part { result.events.now ≡ rising_part events.now }
+    ensures inside { length result.events.now ≤ length events.now }
 {
     let mut rows = 1;
     while rows < events.len() && events[rows - 1] < events[rows] {

@@ -2,16 +2,16 @@
 use Rattle.std.proofs.Common.{ℕ, List, get_or, rules, ap, ◌∙◌, sym, refl}
 use mathlib.Core.Bool.{false≢true}
 use Rattle.units.proofs.Columns.{column_any}
+use Rattle.units.proofs.Padded.{fill_at}
 use Rattle.rules.specs.Plain.{no_link}
-use Rattle.row_changes.proofs.Steps.{zeros_at}
 use Rattle.row_changes.proofs.Rows.{not_found, rows_tell}
 use Rattle.row_changes.proofs.rows_right.Goals as goal
 
 pub find_changes-requires-clause-no_starts : goal.find_changes-requires-clause-no_starts
-find_changes-requires-clause-no_starts c = zeros_at 129
+find_changes-requires-clause-no_starts c = fill_at 0 129
 
 pub find_changes-requires-clause-no_ends : goal.find_changes-requires-clause-no_ends
-find_changes-requires-clause-no_ends c = zeros_at 129
+find_changes-requires-clause-no_ends c = fill_at 0 129
 
 pub returns-then-not-find_changes : goal.returns-then-not-find_changes
 returns-then-not-find_changes c =

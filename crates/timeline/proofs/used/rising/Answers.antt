@@ -11,8 +11,8 @@ loop-rows-init c = risen_first c.args.events.now (omega (arith, c.requires))
 pub loop-rows-preserved : goal.loop-rows-preserved
 loop-rows-preserved c = risen_next c.args.events.now c.loop-rows.rows c.loop-rows.invariant (omega arith) (omega (arith, c.if-events-rows.true))
 
-pub returns : goal.returns
-returns c =
+pub returns-clause-part : goal.returns-clause-part
+returns-clause-part c =
     elim c.loop-rows-test.branch [
       | then-loop-rows-test+else-events-rows w ↦ risen_stop c.args.events.now c.loop-rows.rows c.loop-rows.invariant (omega arith) (omega (arith, w.if-events-rows))
       | else-loop-rows-test w ↦ risen_end c.args.events.now c.loop-rows.rows c.loop-rows.invariant (omega arith)
