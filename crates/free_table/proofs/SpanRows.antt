@@ -52,7 +52,7 @@ unfolding span_rows
 span_rows_length es start end t = length_chunks most_links (suc (row_at es (end - 1) - row_at es start)) (drop (row_at es start * most_links) t)
 
 -- a row among so many
-chunk_at : (size n i : ℕ) (t : List ℕ) → i < n → get_or (first_chunks size n t) i [] ≡ take size (drop (i * size) t)
+pub chunk_at : (size n i : ℕ) (t : List ℕ) → i < n → get_or (first_chunks size n t) i [] ≡ take size (drop (i * size) t)
 chunk_at size zero i t h = absurd (omega arith)
 chunk_at size (suc n) zero t h = rw zero-mul refl
 chunk_at size (suc n) (suc i) t h = chunk_at size n i (drop size t) (omega arith) ∙ ap (take size) (drop-drop (i * size) size t ∙ ap (λ k. drop k t) (omega arith))

@@ -52,7 +52,7 @@ impl FreeTable<'_> {
 
     // The row that holds at the start of an interval, and the rows from it on that hold in the interval's minutes.
     #[tactic(auto, using(timeline::proofs::Rows::row_inside, timeline::proofs::Rows::row_later))]
-    fn rows(&self, minutes: Interval) -> (usize, &[[u32; ROW]])
+    pub(crate) fn rows(&self, minutes: Interval) -> (usize, &[[u32; ROW]])
         ensures first { result.0 ≡ row_at self.now.events.now minutes.start.0 }
         ensures rows { result.1.now ≡ span_rows self.now.events.now minutes.start.0 minutes.end.0 self.now.figures.now }
         ensures inside { result.0 + length result.1.now ≤ length self.now.events.now }
