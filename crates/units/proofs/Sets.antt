@@ -1,7 +1,7 @@
 -- Sets of numbers as bits: which numbers a union, a difference, one number alone and the rest without the lowest have.
 use mathlib.Core.Path.{◌≡◌, refl, sym, ◌∙◌, ap}
 use mathlib.Core.Logic.{◌≢◌}
-use mathlib.Core.Bool.{Bool, true, false, not, ◌&&◌, ◌||◌}
+use mathlib.Core.Bool.{Bool, true, false, not, ◌&&◌, ◌||◌, and-eq-true_iff}
 use Prim.Native.Nat.{ℕ, zero, suc, ◌-◌, ◌*◌, ◌/◌, ◌%◌, ◌^◌, ◌<◌, min, max}
 use native.Mathlib.Decide.{ℕ_discrete, dec_lt}
 use native.Mathlib.Omega.{arith}
@@ -13,7 +13,9 @@ use Rattle.std.specs.Int.Bits.{bit_and, bit_or}
 use Rattle.std.proofs.lemmas.Nat.{one_shl, and_le_r}
 use Rattle.std.proofs.lemmas.Nat.Bits.{bit_at-zero, bit_at-suc, bit_at_lowest, bit_at-lt, bit_at_and, bit_at_or, bit_at_not, bit_at-pow_same, bit_at-pow_other, bit_at_above, bit_at-trailing_zeros, same_from_bits}
 use Rattle.units.specs.Sets.{has}
-use Rattle.units.proofs.Search.{clash}
+use Rattle.units.specs.Search.{any_below}
+use Rattle.units.proofs.Search.{clash, not_true, any_below_some, some_anyBelow}
+use Rattle.units.proofs.Tests.{same_test, or_elim, left_or, right_or}
 
 -- a number is in the set, or its bit is 0
 pub has_bit : (set i : ℕ) → has set i ≡ true → bit_at set i ≡ 1
@@ -158,3 +160,43 @@ module _ (w : Width) where
   lowest_is set some fits =
       let z = bit_at-trailing_zeros w set some fits in
       (z.0, record { in_set = bit_has set (trailing_zeros w set) z.1; before = λ i h. no_bit_has_not set i (z.2 i h) })
+
+-- a set has a number exactly where it is not empty
+pub has_some : (set i : ℕ) → has set i ≡ true → 0 < set
+has_some set i h = elim (ℕ_discrete set 0) [ yes e ↦ clash (ap (λ s. has s i) (sym e) ∙ h) (has_none i) | no d ↦ omega arith ]
+
+-- ---- whether some number of a set passes a test, asked of the lowest and then of the rest
+
+module _ (test : ℕ → Bool) where
+  pub none_left : (n : ℕ) → any_below n (λ i. has 0 i && test i) ≡ false
+  none_left n =
+      not_true (any_below n (λ i. has 0 i && test i))
+      (λ t. let s = any_below_some (λ i. has 0 i && test i) n t in clash ((and-eq-true_iff (has 0 s.0) (test s.0)).0 s.2).0 (has_none s.0))
+
+  pub lowest_left : (n set t : ℕ) → Lowest set t → t < n → any_below n (λ i. has set i && test i) ≡ (test t || any_below n (λ i. has (bit_and set (set - 1)) i && test i))
+  lowest_left n set t lowest h = same_test _ _ there back
+    where
+      rest : ℕ → Bool
+      rest i = has (bit_and set (set - 1)) i && test i
+
+      all : ℕ → Bool
+      all i = has set i && test i
+
+      there : any_below n all ≡ true → (test t || any_below n rest) ≡ true
+      there e =
+          let s = any_below_some all n e in
+          let o = (and-eq-true_iff (has set s.0) (test s.0)).0 s.2 in
+          elim (ℕ_discrete s.0 t) [
+            | yes q ↦ left_or (test t) (any_below n rest) (ap test (sym q) ∙ o.1)
+            | no d ↦ right_or (test t) (any_below n rest)
+                (some_anyBelow rest n s.0 s.1 ((and-eq-true_iff (has (bit_and set (set - 1)) s.0) (test s.0)).1 (has_rest set t lowest s.0 ∙ (and-eq-true_iff (has set s.0) (not (eqb s.0 t))).1 (o.0, ap not (ne_eqb s.0 t d)), o.1)))
+          ]
+
+      back : (test t || any_below n rest) ≡ true → any_below n all ≡ true
+      back e =
+          or_elim (test t) (any_below n rest) e (λ q. some_anyBelow all n t h ((and-eq-true_iff (has set t) (test t)).1 (lowest.in_set, q)))
+          (λ q.
+          let s = any_below_some rest n q in
+          let o = (and-eq-true_iff (has (bit_and set (set - 1)) s.0) (test s.0)).0 s.2 in
+          let w = (and-eq-true_iff (has set s.0) (not (eqb s.0 t))).0 (sym (has_rest set t lowest s.0) ∙ o.0) in
+          some_anyBelow all n s.0 s.1 ((and-eq-true_iff (has set s.0) (test s.0)).1 (w.0, o.1)))
