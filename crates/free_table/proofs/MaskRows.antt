@@ -17,10 +17,11 @@ use Rattle.units.proofs.Search.{all_from_agree, none_fails}
 use Rattle.units.proofs.Sets.{has_and}
 use Rattle.units.proofs.Tests.{less_not}
 use Rattle.timeline.specs.Events.{row_at}
+use Rattle.timeline.proofs.Rows.{row_later}
 use Rattle.free_table.specs.Looking.{lacking_row, first_missing, enough_span, span_rows}
 use Rattle.free_table.specs.Masks.{enough_in}
 use Rattle.free_table.proofs.SpanCheck.{found_nothing}
-use Rattle.free_table.proofs.SpanRows.{chunk_at, span_figure, lacking_rows}
+use Rattle.free_table.proofs.SpanRows.{chunk_at, span_rows_length, span_figure, lacking_rows}
 
 -- ---- the links that are in each mask
 
@@ -75,3 +76,17 @@ module _ (es : List ℕ) (start end : ℕ) (t : List ℕ) (l bandwidth : ℕ) (c
   enough_row i h =
       let place : row_at es start * most_links + (i * most_links + l) ≡ (row_at es start + i) * most_links + l = omega arith in
       ap (leb bandwidth) (sym (span_figure es start end t i l h column ∙ get_or-drop (row_at es start * most_links) t (i * most_links + l) 0 ∙ ap (λ k. get_or t k 0) place))
+
+module _ (es : List ℕ) (start end : ℕ) (t : List ℕ) (l bandwidth : ℕ) (column : l < most_links) where
+  -- those up to the row that holds in a minute of the span say whether it has it up to that minute
+  pub enough_up_to : (i m : ℕ) → start ≤ m → m < end → row_at es m ≡ row_at es start + i
+      → all_from 0 (i + 1) (λ j. leb bandwidth (get_or (get_or (span_rows es start end t) j []) l 0)) ≡ enough_span es start (suc m) l bandwidth t
+  enough_up_to i m a b e =
+      let last : suc m - 1 ≡ m = omega arith in
+      let count : suc (row_at es (suc m - 1) - row_at es start) ≡ i + 1 = rw last (omega arith) in
+      let long : length (span_rows es start (suc m) t) ≡ i + 1 = span_rows_length es start (suc m) t ∙ count in
+      let inside = row_later m (end - 1) es (omega arith) in
+      all_from_agree (λ j. leb bandwidth (get_or (get_or (span_rows es start end t) j []) l 0)) (λ j. leb bandwidth (get_or (get_or (span_rows es start (suc m) t) j []) l 0)) 0 (i + 1)
+      (λ j x y. ap (leb bandwidth) (span_figure es start end t j l (omega (arith, span_rows_length es start end t)) column ∙ sym (span_figure es start (suc m) t j l (omega arith) column)))
+      ∙ ap (λ n. all_from 0 n (λ j. leb bandwidth (get_or (get_or (span_rows es start (suc m) t) j []) l 0))) (sym long)
+      ∙ enough_rows es start (suc m) t l bandwidth column

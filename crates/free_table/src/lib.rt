@@ -14,7 +14,7 @@ mod missing;
 mod view;
 
 pub use interval::Interval;
-pub use masks::{Masks, no_masks};
+pub use masks::{Masks, no_masks, row_mask};
 pub use missing::Missing;
 use timeline::row_at;
 use units::{Bandwidth, LinkNumber, Minute, ROW};

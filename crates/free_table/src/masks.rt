@@ -27,7 +27,7 @@ fn lanes(row: &[u32; ROW], from: usize, bandwidth: Bandwidth) -> u64
 }
 
 // Which links have at least the bandwidth in a row, as bits.
-fn row_mask(row: &[u32; ROW], bandwidth: Bandwidth) -> u64
+pub fn row_mask(row: &[u32; ROW], bandwidth: Bandwidth) -> u64
     ensures { (l : ℕ) → l < most_links → has result l ≡ leb bandwidth.0 (get_or row.now l 0) }
 {
     let first = lanes(row, 0, bandwidth);

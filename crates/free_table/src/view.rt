@@ -52,7 +52,7 @@ impl FreeTable<'_> {
 
     // The row that holds at the start of an interval, and the rows from it on that hold in the interval's minutes.
     #[tactic(auto, using(timeline::proofs::Rows::row_inside, timeline::proofs::Rows::row_later))]
-    pub(crate) fn rows(&self, minutes: Interval) -> (usize, &[[u32; ROW]])
+    pub fn rows(&self, minutes: Interval) -> (usize, &[[u32; ROW]])
         ensures first { result.0 ≡ row_at self.now.events.now minutes.start.0 }
         ensures rows { result.1.now ≡ span_rows self.now.events.now minutes.start.0 minutes.end.0 self.now.figures.now }
         ensures inside { result.0 + length result.1.now ≤ length self.now.events.now }
@@ -64,7 +64,7 @@ impl FreeTable<'_> {
     }
 
     // The first minute from a start on in a row, counted from the row `first` that holds at the start.
-    fn row_minute(&self, start: Minute, first: usize, row: usize) -> Minute
+    pub fn row_minute(&self, start: Minute, first: usize, row: usize) -> Minute
         requires first { first ≡ row_at self.now.events.now start.0 }
         requires inside { first + row < length self.now.events.now }
         ensures { result.0 ≡ row_minute self.now.events.now start.0 row }
