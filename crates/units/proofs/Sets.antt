@@ -2,7 +2,8 @@
 use mathlib.Core.Path.{◌≡◌, refl, sym, ◌∙◌, ap}
 use mathlib.Core.Logic.{◌≢◌}
 use mathlib.Core.Bool.{Bool, true, false, not, ◌&&◌, ◌||◌, and-eq-true_iff}
-use Prim.Native.Nat.{ℕ, zero, suc, ◌-◌, ◌*◌, ◌/◌, ◌%◌, ◌^◌, ◌<◌, min, max}
+use Prim.Native.Nat.{ℕ, zero, suc, ◌-◌, ◌*◌, ◌/◌, ◌%◌, ◌^◌, ◌≤◌, ◌<◌, min, max}
+use native.Mathlib.Nat.{le_refl}
 use native.Mathlib.Decide.{ℕ_discrete, dec_lt}
 use native.Mathlib.Omega.{arith}
 use lib.Dec.{eqb}
@@ -162,6 +163,17 @@ module _ (w : Width) where
       (z.0, record { in_set = bit_has set (trailing_zeros w set) z.1; before = λ i h. no_bit_has_not set i (z.2 i h) })
 
 -- a set has a number exactly where it is not empty
+some_bit : (most set : ℕ) → set ≤ most → 0 < set → (i : ℕ) × (bit_at set i ≡ 1)
+some_bit zero set h some = absurd (omega arith)
+some_bit (suc most) set h some =
+    elim (ℕ_discrete (set % 2) 1) [
+      | yes e ↦ (0, bit_at_lowest set ∙ e)
+      | no d ↦ let r = some_bit most (set / 2) (omega arith) (omega arith) in (suc r.0, bit_at-suc set r.0 ∙ r.1)
+    ]
+
+pub some_has : (set : ℕ) → 0 < set → (i : ℕ) × (has set i ≡ true)
+some_has set some = let r = some_bit set set (le_refl set) some in (r.0, bit_has set r.0 r.1)
+
 pub has_some : (set i : ℕ) → has set i ≡ true → 0 < set
 has_some set i h = elim (ℕ_discrete set 0) [ yes e ↦ clash (ap (λ s. has s i) (sym e) ∙ h) (has_none i) | no d ↦ omega arith ]
 
