@@ -11,7 +11,7 @@ use borrow.Author.Tests.{eq-eqb, not-true}
 use Rattle.units.specs.Limits.{last_node, most_hops}
 use Rattle.units.specs.Sets.{has}
 use Rattle.units.proofs.Search.{first_from_nothing, clash, not_true}
-use Rattle.path_search.specs.Paths.{Graph, reaches, fewest, none, route_of, route}
+use Rattle.path_search.specs.Paths.{Graph, reaches, fewest}
 use Rattle.path_search.specs.Answer.{Cuts}
 use Rattle.path_search.proofs.Chains.{Way, reaches_iff}
 use Rattle.path_search.proofs.Loops.{NodesBelow}

@@ -1,10 +1,9 @@
 -- The loop of `layers`: after n rounds the frontier is the nodes that need n links, the layers below n are right and those from n on
 -- empty.
-use mathlib.Core.Path.{◌≡◌, refl, sym, ◌∙◌, ap, subst}
+use mathlib.Core.Path.{◌≡◌, sym, ◌∙◌, ap, subst}
 use mathlib.Core.List.{List}
-use mathlib.Core.Logic.{◌≢◌}
-use mathlib.Core.Bool.{Bool, true, false, not, ◌&&◌, ◌||◌, and-eq-true_iff}
-use Prim.Native.Nat.{ℕ, zero, suc, ◌+◌, ◌-◌, ◌≤◌, ◌<◌, zero-le, max}
+use mathlib.Core.Bool.{Bool, true, not, ◌&&◌, ◌||◌, and-eq-true_iff}
+use Prim.Native.Nat.{ℕ, zero, suc, ◌+◌, ◌-◌, ◌≤◌, ◌<◌, zero-le}
 use native.Mathlib.Nat.{le_refl}
 use native.Mathlib.Decide.{ℕ_discrete, dec_lt}
 use native.Mathlib.Numerals.{add-one}
@@ -18,12 +17,10 @@ use Rattle.units.specs.Sets.{has}
 use Rattle.units.proofs.Search.{any_below_some, some_anyBelow, clash, not_true}
 use Rattle.units.proofs.Sets.{has_none}
 use Rattle.units.proofs.Tests.{Tells, ◌&◌, less_than, or_elim, left_or, right_or}
-use Rattle.path_search.specs.declared.Layers.{Layers}
 use Rattle.path_search.specs.Paths.{Graph, reaches}
-use Rattle.path_search.specs.Rounds.{distance, sources, NodesAt, LinksAt}
+use Rattle.path_search.specs.Rounds.{distance, sources}
 use Rattle.path_search.specs.Layers.{LayersOf}
 use Rattle.path_search.specs.Needed.{most_needed, MostNeeded}
-use Rattle.path_search.proofs.Chains.{Leaves}
 use Rattle.path_search.proofs.Loops.{NodesBelow}
 use Rattle.path_search.proofs.Needed.{Fewest, fewest_needs, needs_fewest, none_needed, some_needed, needs_few, most_only, most_right}
 use Rattle.path_search.proofs.DistanceLaws.{distance_tells, reached_fewest, fewest_first, fewest_step, none_further}
@@ -70,9 +67,10 @@ module _ (g : Graph) (usable : ℕ → Bool) (target : ℕ) (below : NodesBelow 
   begun nodes links met one no_nodes no_links =
       record {
         frontier_of = λ v h. ((λ e. target_away v (eqb-true v target (sym (one v h) ∙ e))), λ f. one v h ∙ away_target v f);
-        met_by = λ v h.
-            ((λ e. (0, le_refl 0, target_away v (eqb-true v target (sym (one v h) ∙ e)))),
-             λ r. one v h ∙ away_target v (subst (Away v) (let z : r.0 ≡ 0 = omega (arith, r.1) in z) r.2));
+        met_by = λ v h. (
+          (λ e. (0, le_refl 0, target_away v (eqb-true v target (sym (one v h) ∙ e)))),
+          λ r. one v h ∙ away_target v (subst (Away v) (let z : r.0 ≡ 0 = omega (arith, r.1) in z) r.2),
+        );
         nodes_of = λ j h. absurd (omega arith);
         links_of = λ j h. absurd (omega arith);
         no_nodes = λ j h. no_nodes j;
@@ -123,7 +121,7 @@ module _ (g : Graph) (usable : ℕ → Bool) (target : ℕ) (below : NodesBelow 
               new v h
               ∙ (and-eq-true_iff (sources g layer v) (not (has met v))).1 (
                 some_anyBelow (λ l. has layer l && eqb (g.from l) v) g.count s.0 s.1.known
-                ((and-eq-true_iff (has layer s.0) (eqb (g.from s.0) v)).1 ((layer_of s.0).1 (s.1.known, s.1.usable, s.2), eq-eqb _ _ s.1.begins)),
+                    ((and-eq-true_iff (has layer s.0) (eqb (g.from s.0) v)).1 ((layer_of s.0).1 (s.1.known, s.1.usable, s.2), eq-eqb _ _ s.1.begins)),
                 ap not (not_true (has met v) (λ t. let r = (going.met_by v h).0 t in clash r.2.leads (f.before r.0 (omega (arith, r.1))))),
               )
 
@@ -183,9 +181,10 @@ module _ (g : Graph) (usable : ℕ → Bool) (target : ℕ) (below : NodesBelow 
       at_link j =
           elim (dec_lt j n) [
             | yes a ↦ going.links_of j a
-            | no a ↦ λ l.
-                ((λ e. clash e (ap (λ s. has s l) (going.no_links j (omega arith)) ∙ has_none l)),
-                 λ r. absurd (no_more j (g.to l) (omega arith) (let b = below.to_below l r.0 in omega arith) r.2))
+            | no a ↦ λ l. (
+              (λ e. clash e (ap (λ s. has s l) (going.no_links j (omega arith)) ∙ has_none l)),
+              λ r. absurd (no_more j (g.to l) (omega arith) (let b = below.to_below l r.0 in omega arith) r.2),
+            )
           ]
 
       most : MostNeeded g usable target (n - 1)

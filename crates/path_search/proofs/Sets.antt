@@ -1,5 +1,5 @@
 -- Sets of nodes and links: which links the nodes of a set have, by the links of each node.
-use mathlib.Core.Path.{◌≡◌, refl, sym, ◌∙◌, ap, ap₂, subst}
+use mathlib.Core.Path.{◌≡◌, refl, sym, ◌∙◌, ap, ap₂}
 use mathlib.Core.Logic.{◌≢◌}
 use mathlib.Core.List.{List}
 use mathlib.Core.Bool.{Bool, true, false, not, ◌&&◌, ◌||◌, and-eq-true_iff}
@@ -15,7 +15,7 @@ use Rattle.std.specs.Int.{w32, w64, trailing_zeros}
 use Rattle.std.specs.Int.Bits.{bit_and, bit_or}
 use Rattle.units.specs.Limits.{last_node}
 use Rattle.units.specs.Sets.{has}
-use Rattle.units.specs.Search.{Found, at, first_from, any_below}
+use Rattle.units.specs.Search.{at, first_from, any_below}
 use Rattle.units.proofs.Search.{IsFirst, any_below_some, some_anyBelow, first_from_found, first_from_first}
 use Rattle.units.proofs.Sets.{Lowest, has_and, has_or, has_one, has_rest, has_some, lowest_left, lowest_is}
 use Rattle.units.proofs.Tests.{Tells, same_test, right_or}

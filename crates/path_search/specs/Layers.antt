@@ -1,9 +1,9 @@
 -- What the rounds find: the nodes and links at each distance, those that were met, and the number of rounds.
-use Rattle.std.specs.Prelude.{◌≡◌, List, Bool, true, ℕ, suc, ◌≤◌, max, get_or}
+use Rattle.std.specs.Prelude.{◌≡◌, Bool, true, ℕ, suc, ◌≤◌, max, get_or}
 use Rattle.units.specs.Limits.{last_node}
 use Rattle.units.specs.Sets.{has}
 use Rattle.path_search.specs.declared.Layers.{Layers}
-use Rattle.path_search.specs.Paths.{Graph, route, none}
+use Rattle.path_search.specs.Paths.{Graph}
 use Rattle.path_search.specs.Rounds.{distance, NodesAt, LinksAt}
 use Rattle.path_search.specs.Needed.{most_needed}
 

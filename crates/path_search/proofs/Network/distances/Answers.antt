@@ -1,5 +1,5 @@
 -- distances meets its contract. The nodes from which fewer than `near` links lead have their figure, the others `far`.
-use mathlib.Core.Path.{◌≡◌, refl, sym, ◌∙◌, ap, ap₂}
+use mathlib.Core.Path.{◌≡◌, refl, sym, ◌∙◌, ap}
 use mathlib.Core.Bool.{Bool, true, false}
 use Prim.Native.Nat.{ℕ, zero-le, ◌≤◌}
 use native.Mathlib.Omega.{arith}
@@ -16,7 +16,7 @@ use Rattle.path_search.proofs.Network.distances.Goals as goal
 pub loop-near-init : goal.loop-near-init
 loop-near-init c =
     λ v h. get_or-replicate far v far 0 (omega arith)
-        ∙ sym (ap (λ b. elim b as (λ x. ℕ) [ true ↦ distance (graph_of c.args.self) (usable_in c.args.self) c.args.destination last_node v | false ↦ far ]) (le-ltb _ 0 zero-le))
+    ∙ sym (ap (λ b. elim b as (λ x. ℕ) [ true ↦ distance (graph_of c.args.self) (usable_in c.args.self) c.args.destination last_node v | false ↦ far ]) (le-ltb _ 0 zero-le))
 
 -- with all of them the table is the distances
 all_near : (g : Graph) (usable : ℕ → Bool) (target v n : ℕ) → far ≤ n

@@ -46,7 +46,7 @@ returns c =
     let mapped : c.map.result ≡ option_map (λ n. n + 1) c.find.result = search rules in
     mapped
     ∙ found_is g u layers.destination source set
-      (λ k h. set_ends g u layers.destination source k out (get_or layers.links k 0) (omega arith) leaving (c.requires.links k (omega arith)))
-      (λ k h. ends_set g u layers.destination source k out (get_or layers.links k 0) (omega arith) leaving (c.requires.links k (omega arith)))
-      c.find.result
-      (first_from_Range _ _ _ _ (λ k. 0 < set k) (λ k. set k ≡ 0) c.find.ensures.ran (λ x q h. search rules) (λ x q h. search rules))
+    (λ k h. set_ends g u layers.destination source k out (get_or layers.links k 0) (omega arith) leaving (c.requires.links k (omega arith)))
+    (λ k h. ends_set g u layers.destination source k out (get_or layers.links k 0) (omega arith) leaving (c.requires.links k (omega arith)))
+    c.find.result
+    (first_from_Range _ _ _ _ (λ k. 0 < set k) (λ k. set k ≡ 0) c.find.ensures.ran (λ x q h. search rules) (λ x q h. search rules))

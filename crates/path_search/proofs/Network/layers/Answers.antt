@@ -1,7 +1,7 @@
 -- layers meets its contract. After `number` rounds the frontier is the nodes that need that many links.
-use mathlib.Core.Path.{◌≡◌, refl, sym, ◌∙◌, ap, ap₂}
-use mathlib.Core.Bool.{Bool, true, not, ◌&&◌}
-use Prim.Native.Nat.{ℕ, zero, suc, ◌≤◌, ◌<◌}
+use mathlib.Core.Path.{◌≡◌, refl, ◌∙◌, ap₂}
+use mathlib.Core.Bool.{true, ◌&&◌}
+use Prim.Native.Nat.{ℕ, zero, suc, ◌≤◌}
 use native.Mathlib.Omega.{arith}
 use borrow.Author.Rules.{rules}
 use lib.ListN.{get_or, replicate, length-set}
@@ -13,7 +13,7 @@ use Rattle.units.proofs.Sets.{has_and, has_or, has_not}
 use Rattle.path_search.specs.Rounds.{far}
 use Rattle.path_search.specs.Answer.{graph_of, usable_in}
 use Rattle.path_search.proofs.InRange.{nodes_below}
-use Rattle.path_search.proofs.LayerLaws.{Going, begun, few, goes_on, ended}
+use Rattle.path_search.proofs.LayerLaws.{begun, few, goes_on, ended}
 use Rattle.path_search.proofs.Sets.{lowest_node}
 use Rattle.path_search.proofs.Network.layers.Goals as goal
 use Rattle.path_search.proofs.Network.layers.Goals.{In-loop-frontier}
@@ -66,8 +66,8 @@ loop-frontier-preserved c =
       length-set l.nodes _ _ ∙ l.invariant.0,
       length-set l.links _ _ ∙ l.invariant.1,
       goes_on (graph_of c.args.self) (usable_in c.args.self) c.args.destination (nodes_below c.args.self.net.now.ends) l.nodes l.links l.frontier l.met l.number l.invariant.2 leading next
-      c.links_to-leading.ensures (λ v h. has_and c.sources.result (bit_not w32 l.met) v ∙ ap₂ ◌&&◌ (c.sources.ensures v) (has_not w32 l.met v (search rules) (omega arith)))
-      (bit_or l.met next) (λ v. has_or l.met next v) n.node n.is_node n.next (omega (arith, n.few_rounds, l.invariant.0)) (omega (arith, n.few_rounds, l.invariant.1)),
+          c.links_to-leading.ensures (λ v h. has_and c.sources.result (bit_not w32 l.met) v ∙ ap₂ ◌&&◌ (c.sources.ensures v) (has_not w32 l.met v (search rules) (omega arith)))
+          (bit_or l.met next) (λ v. has_or l.met next v) n.node n.is_node n.next (omega (arith, n.few_rounds, l.invariant.0)) (omega (arith, n.few_rounds, l.invariant.1)),
     )
 
 pub returns-clause-of : goal.returns-clause-of

@@ -1,6 +1,4 @@
 -- nearer_link meets its contract: the lowest of the links out of the node that lead to the layer.
-use mathlib.Core.Path.{◌≡◌}
-use Prim.Native.Nat.{◌≤◌, ◌<◌, ◌^◌}
 use native.Mathlib.Omega.{arith}
 use borrow.Author.Rules.{rules}
 use lib.ListN.{get_or}

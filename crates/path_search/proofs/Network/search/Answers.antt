@@ -1,7 +1,6 @@
 -- search meets its contract. By the layers the links of a path are as few as can be, and the links picked are the route.
-use mathlib.Core.Path.{◌≡◌, sym, ◌∙◌, ap, subst}
-use native.Mathlib.Omega.{arith}
-use Rattle.std.proofs.Common.{Option, Some, None}
+use mathlib.Core.Path.{sym, ◌∙◌, ap}
+use Rattle.std.proofs.Common.{Some}
 use Rattle.path_search.specs.Answer.{graph_of, usable_in, found_path}
 use Rattle.path_search.specs.Paths.{route}
 use Rattle.path_search.proofs.Picks.{found_at, found_nothing, walkable, route_is, route_none}

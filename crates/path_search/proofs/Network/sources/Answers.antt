@@ -1,7 +1,6 @@
 -- sources meets its contract. The nodes so far and those at which the links that are left begin are all.
 use mathlib.Core.Path.{◌≡◌, sym, ◌∙◌, ap}
-use mathlib.Core.Bool.{Bool, true, ◌||◌, and-eq-true_iff}
-use Prim.Native.Nat.{◌<◌, ◌^◌}
+use mathlib.Core.Bool.{◌||◌, and-eq-true_iff}
 use native.Mathlib.Omega.{arith}
 use Rattle.std.specs.Int.{w64, trailing_zeros}
 use Rattle.std.proofs.Math.Bool.{or-false}

@@ -41,7 +41,7 @@ loop-place-init c = ([], refl, refl, ap (λ k. picked (graph_of c.args.self) (us
 pub bounds-self-link : goal.bounds-self-link
 bounds-self-link c =
     let p : Picked (graph_of c.args.self) (usable_in c.args.self) (away (graph_of c.args.self) (usable_in c.args.self) c.args.layers.now) (c.args.count - 1 - c.loop-place.place) c.loop-place.node c.nearer_link-link.result.0
-        = picked_next _ _ _ _ _ _ c.nearer_link-link.ensures in
+    = picked_next _ _ _ _ _ _ c.nearer_link-link.ensures in
     omega (arith, p.known, c.args.self.net.now.ends.in_range.few)
 
 pub loop-place-preserved : goal.loop-place-preserved

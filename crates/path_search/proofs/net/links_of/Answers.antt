@@ -1,12 +1,11 @@
 -- links_of meets its contract. The sets have the links below `link`.
-use mathlib.Core.Path.{◌≡◌, refl, sym, ◌∙◌, ap}
+use mathlib.Core.Path.{refl, sym, ◌∙◌, ap}
 use native.Mathlib.Omega.{arith}
 use lib.ListN.{get_or, get_or-replicate, length-set}
 use lib.Dec.{eqb}
 use Prim.Native.Nat.{zero-le}
 use mathlib.Core.Bool.{◌&&◌}
 use borrow.Author.Tests.{le-ltb}
-use borrow.Author.Rules.{rules}
 use Rattle.units.specs.Sets.{has}
 use Rattle.units.proofs.Sets.{has_none}
 use Rattle.path_search.specs.Rounds.{far}
