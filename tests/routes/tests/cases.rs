@@ -59,7 +59,7 @@ fn longest_routes() {
 #[test]
 fn nothing_to_use() {
     let mut q = ask(&ring(5), 0, 3);
-    q.set.has = [false; LINKS];
+    q.set = LinkSet::NONE;
     assert_eq!(find_route(&q), path(&[]));
     q.ends.count = 0;
     assert_eq!(find_route(&q), path(&[]));
@@ -96,7 +96,7 @@ fn rounds_go_on_beyond_the_source() {
 #[test]
 fn one_round_that_reaches_nothing() {
     let mut q = ask(&ring(5), 0, 3);
-    q.set.has = [false; LINKS];
+    q.set = LinkSet::NONE;
     assert_eq!(rounds(&q), 1);
     q.ends.count = 0;
     assert_eq!(rounds(&q), 1);
