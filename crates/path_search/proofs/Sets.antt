@@ -17,7 +17,7 @@ use Rattle.units.specs.Limits.{last_node}
 use Rattle.units.specs.Sets.{has}
 use Rattle.units.specs.Search.{at, first_from, any_below}
 use Rattle.units.proofs.Search.{IsFirst, any_below_some, some_anyBelow, first_from_found, first_from_first}
-use Rattle.units.proofs.Sets.{Lowest, has_and, has_or, has_one, has_rest, has_some, lowest_left, lowest_is}
+use Rattle.units.proofs.Sets.{Lowest, has_and, has_or, has_one, has_rest, has_some, lowest_left, has_next, has_same, lowest_is}
 use Rattle.units.proofs.Tests.{Tells, same_test, right_or}
 use Rattle.path_search.specs.Paths.{Graph, onward}
 use Rattle.path_search.specs.Ends.{LinksOf}
@@ -30,10 +30,6 @@ or_assoc false b c = refl
 and_true : (b : Bool) → (b && true) ≡ b
 and_true true = refl
 and_true false = refl
-
-and_false : (b : Bool) → (b && false) ≡ false
-and_false true = refl
-and_false false = refl
 
 eqb_swap : (a b : ℕ) → eqb a b ≡ eqb b a
 eqb_swap a b = same_test (eqb a b) (eqb b a) (λ e. eq-eqb b a (sym (eqb-true a b e))) (λ e. eq-eqb a b (sym (eqb-true b a e)))
@@ -104,41 +100,19 @@ pub links_more : (ends sets : List ℕ) (n : ℕ) → LinksOf n ends sets → n 
 links_more ends sets n of few room v h l =
     rw (add-one n)
     (elim (ℕ_discrete v node) [
-      | yes e ↦ ap (λ s. has s l) (ap (λ w. get_or after w 0) e ∙ get_or-set_same sets node (bit_or (get_or sets node 0) (1 * 2 ^ n % 2 ^ 64)) 0 room)
-          ∙ has_or (get_or sets node 0) (1 * 2 ^ n % 2 ^ 64) l
-          ∙ ap₂ ◌||◌ (ap (λ w. has (get_or sets w 0) l) (sym e) ∙ of v h l) (has_one w64 n l few)
-          ∙ here e
-      | no d ↦ ap (λ s. has s l) (get_or-set_other sets node v (bit_or (get_or sets node 0) (1 * 2 ^ n % 2 ^ 64)) 0 d) ∙ of v h l ∙ other d
+      | yes e ↦ ap (λ s. has s l) (ap (λ w. get_or (set sets node more) w 0) e ∙ get_or-set_same sets node more 0 room)
+          ∙ has_next test (get_or sets node 0) n (λ k. ap (λ w. has (get_or sets w 0) k) (sym e) ∙ of v h k) w64 few (eq-eqb node v (sym e)) l
+      | no d ↦ ap (λ s. has s l) (get_or-set_other sets node v more 0 d) ∙ has_same test (get_or sets v 0) n (of v h) (ne_eqb node v (λ e. d (sym e))) l
     ])
   where
     node : ℕ
     node = get_or ends n 0
 
-    after : List ℕ
-    after = set sets node (bit_or (get_or sets node 0) (1 * 2 ^ n % 2 ^ 64))
+    more : ℕ
+    more = bit_or (get_or sets node 0) (1 * 2 ^ n % 2 ^ 64)
 
-    before : l ≢ n → ltb l n ≡ ltb l (suc n)
-    before d = same_test _ _ (λ e. let z = ltb-true l n e in lt-ltb l (suc n) (omega arith)) (λ e. let z = ltb-true l (suc n) e in lt-ltb l n (omega arith))
-
-    or_false : (b : Bool) → (b || false) ≡ b
-    or_false true = refl
-    or_false false = refl
-
-    here : v ≡ node → ((ltb l n && eqb (get_or ends l 0) v) || eqb l n) ≡ (ltb l (suc n) && eqb (get_or ends l 0) v)
-    here e =
-        elim (ℕ_discrete l n) [
-          | yes q ↦ right_or (ltb l n && eqb (get_or ends l 0) v) (eqb l n) (eq-eqb l n q)
-              ∙ sym ((and-eq-true_iff (ltb l (suc n)) (eqb (get_or ends l 0) v)).1 (lt-ltb l (suc n) (omega arith), eq-eqb _ _ (ap (λ k. get_or ends k 0) q ∙ sym e)))
-          | no d ↦ ap (λ b. (ltb l n && eqb (get_or ends l 0) v) || b) (ne_eqb l n d) ∙ or_false (ltb l n && eqb (get_or ends l 0) v) ∙ ap (λ b. b && eqb (get_or ends l 0) v) (before d)
-        ]
-
-    other : v ≢ node → (ltb l n && eqb (get_or ends l 0) v) ≡ (ltb l (suc n) && eqb (get_or ends l 0) v)
-    other d =
-        elim (ℕ_discrete l n) [
-          | yes q ↦ let z : eqb (get_or ends l 0) v ≡ false = ne_eqb (get_or ends l 0) v (λ e. d (sym e ∙ ap (λ k. get_or ends k 0) q)) in
-              ap (λ b. ltb l n && b) z ∙ and_false (ltb l n) ∙ sym (ap (λ b. ltb l (suc n) && b) z ∙ and_false (ltb l (suc n)))
-          | no e ↦ ap (λ b. b && eqb (get_or ends l 0) v) (before e)
-        ]
+    test : ℕ → Bool
+    test k = eqb (get_or ends k 0) v
 
 -- ---- the usable links out of a node to those of a figure
 
