@@ -7,15 +7,17 @@ ghost use Rattle.choice.specs.EventTables.{AreEvents};
 use crate::Granted;
 use crate::search::Search;
 use free_table::{FreeTable, Interval};
-use path_search::{LinkSet, Network, Path};
+use path_search::{LinkSet, Net, Network, Path};
 use units::{LINKS, Minute, Refusal, Refused, end_minute};
 
-// What is asked of any start, and the events and figures of which.
+// What is asked of any start, its links with those of each node, and the events and figures of which.
 #[derive(Clone, Copy)]
 pub struct Asked<'a, 'b> {
     pub search: &'a Search,
+    pub net: &'a Net,
     pub table: FreeTable<'b>,
     pub ghost are_events: { AreEvents table.events.now },
+    pub ghost same_links: { net.now.ends ≡ search.now.ends },
 }
 
 // The least minute above one at which a link lacks the bandwidth first; the end where there is none.
@@ -48,15 +50,15 @@ impl Asked<'_, '_> {
         ensures { result ≡ found_path (route (graph self.now.search.now.ends) (lasts_to until.now end.0) self.now.search.now.destination self.now.search.now.source) }
     {
         let search = self.search;
-        let mut usable = LinkSet {
-            has: [false; LINKS],
-        };
-        for (link, has) in usable.has.iter_mut().enumerate() {
-            *has = end.0 <= until[link];
+        let mut bits = 0;
+        for (link, &lacking) in until.iter().enumerate() {
+            if end.0 <= lacking {
+                bits |= 1 << link;
+            }
         }
         let network = Network {
-            ends: &search.ends,
-            usable: &usable,
+            net: self.net,
+            usable: LinkSet { bits },
         };
         network.find_route(search.source, search.destination)
     }

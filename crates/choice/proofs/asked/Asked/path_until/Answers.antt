@@ -1,19 +1,41 @@
--- path_until meets its contract: the links are marked that last to the minute, and the route depends on nothing else.
+-- path_until meets its contract: the set has the links that last to the minute, and the route depends on nothing else.
 use mathlib.Core.Path.{◌≡◌, refl, ◌∙◌, ap}
-use mathlib.Core.Bool.{Bool}
+use mathlib.Core.Bool.{Bool, ◌&&◌}
 use Prim.Native.Nat.{ℕ, ◌<◌}
+use native.Mathlib.Numerals.{add-one}
 use native.Mathlib.Omega.{arith}
-use lib.Dec.{leb}
 use lib.ListN.{get_or}
-use Rattle.path_search.specs.Answer.{graph, usable, found_path}
+use borrow.Author.Tests.{le-leb, lt-leb, lt-ltb}
+use Rattle.std.specs.Int.{w64}
+use Rattle.units.specs.Sets.{has}
+use Rattle.units.proofs.Sets.{has_next, has_same}
+use Rattle.path_search.specs.Paths.{route}
+use Rattle.path_search.specs.Answer.{graph, found_path}
 use Rattle.path_search.proofs.Agree.{route_agree}
+use Rattle.choice.specs.BreakOff.{lasts_to}
 use Rattle.choice.proofs.asked.Asked.path_until.Goals as goal
+use Rattle.choice.proofs.asked.Asked.path_until.Goals.{then-end-lacking, else-end-lacking}
+
+pub loop-link-preserved : goal.loop-link-preserved
+loop-link-preserved c =
+    let l = c.loop-link in
+    let last : ℕ → Bool = lasts_to c.args.until.now c.args.end.0 in
+    rw add-one
+    (elim c.if-end-lacking.branch [
+      | then-end-lacking w ↦ λ k. ap (λ s. has s k) w.bits-is ∙ has_next last l.bits l.link l.invariant w64 (omega (arith, c.loop-link-test.true)) (le-leb c.args.end.0 (get_or c.args.until.now l.link 0) w.if-end-lacking.true) k
+      | else-end-lacking w ↦ λ k. ap (λ s. has s k) w.bits-is ∙ has_same last l.bits l.link l.invariant (lt-leb c.args.end.0 (get_or c.args.until.now l.link 0) w.if-end-lacking.false) k
+    ])
 
 pub returns : goal.returns
 returns c =
-    let s = c.args.self.now.search.now in
-    let g = graph s.ends in
-    let marked = usable (record { has = c.loop-link.has-items }) in
-    let last : ℕ → Bool = λ l. leb c.args.end.0 (get_or c.args.until.now l 0) in
-    let same : (l : ℕ) → l < g.count → marked l ≡ last l = λ l h. c.loop-link.invariant l (omega (arith, s.ends.in_range.few)) in
-    c.find_route.ensures ∙ ap found_path (route_agree g g marked last (record { count = refl; from = λ l h. refl; to = λ l h. refl; usable = same }) s.destination s.source)
+    let a = c.args.self.now in
+    let s = a.search.now in
+    let ends = a.net.now.ends in
+    let g = graph ends in
+    let set = c.loop-link.bits in
+    let last : ℕ → Bool = lasts_to c.args.until.now c.args.end.0 in
+    let same : (l : ℕ) → l < g.count → has set l ≡ last l
+    = λ l h. c.loop-link.invariant l ∙ ap (λ b. b && last l) (lt-ltb l c.loop-link.link (omega (arith, c.loop-link-test.false, ends.in_range.few))) in
+    c.find_route.ensures
+    ∙ ap found_path (route_agree g g (has set) last (record { count = refl; from = λ l h. refl; to = λ l h. refl; usable = same }) s.destination s.source)
+    ∙ ap (λ e. found_path (route (graph e) last s.destination s.source)) a.same_links
