@@ -23,7 +23,6 @@ HeldKnown s (Some held) = leads_over s held.bits ≡ true
 HeldKnown s None = Unit {0}
 
 pub record KnownOf (a : Asked) (known : Known) : Type 0 where
-  pub links : known.net.ends ≡ a.search.now.ends
   pub kept : Kept known.masks a.table.figures.now a.search.now.bandwidth.0
   pub cut : CutKnown a.search.now known.cut
   pub held : HeldKnown a.search.now known.held

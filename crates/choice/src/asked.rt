@@ -1,23 +1,26 @@
 // A search beside the tables of a desk: which of a window's minutes it can start in, and where every path from low on breaks off.
 
-ghost use Rattle.std.specs.Prelude.{◌≡◌, true, ℕ, ◌<◌, ◌%◌, get_or};
-ghost use Rattle.units.specs.Limits.{most_hops, most_links};
+ghost use Rattle.std.specs.Prelude.{◌≡◌, true, ◌%◌, take};
+ghost use Rattle.units.specs.Limits.{most_links};
+ghost use Rattle.units.specs.Lists.{All};
 ghost use Rattle.units.specs.Sets.{has};
 ghost use Rattle.choice.specs.EventTables.{AreEvents};
 
 use crate::Granted;
-use crate::known::Known;
+use crate::known::{Known, nothing_known};
 use crate::search::Search;
-use free_table::{FreeTable, Interval, Masks, no_masks, row_mask};
+use free_table::{FreeTable, Interval, Masks, row_mask};
 use path_search::{LinkSet, Net, Network, Path, Searched};
 use units::{LINKS, Minute, PATH_LINKS, Refusal, Refused, end_minute};
 
-// What is asked of any start, and the events and figures of which.
+// What is asked of any start, its links with those of each node, and the events and figures of which.
 #[derive(Clone, Copy)]
 pub struct Asked<'a, 'b> {
     pub search: &'a Search,
+    pub net: &'a Net,
     pub table: FreeTable<'b>,
     pub ghost are_events: { AreEvents table.events.now },
+    pub ghost same_links: { net.now.ends ≡ search.now.ends },
 }
 
 impl Asked<'_, '_> {
@@ -30,18 +33,6 @@ impl Asked<'_, '_> {
     ghost use Rattle.path_search.specs.Answer.{graph, found_path};
     ghost use Rattle.choice.specs.Known.{KnownOf, leads_over};
     ghost use Rattle.choice.specs.Answer.{wanted, carried, route_of, possible_of, choice_of, break_off_of, AskableOf, found_start, chosen};
-
-    // What is known before the first try: the links alone.
-    pub fn known(&self) -> Known
-        ensures { KnownOf self.now result }
-    {
-        Known {
-            net: Net::new(self.search.ends),
-            masks: no_masks(),
-            cut: None,
-            held: None,
-        }
-    }
 
     // The links that have the bandwidth free throughout the span of a start.
     fn links_at(&self, masks: &mut Masks, start: Minute) -> LinkSet
@@ -71,7 +62,7 @@ impl Asked<'_, '_> {
             }
         }
         let network = Network {
-            net: &known.net,
+            net: self.net,
             usable: links,
         };
         match network.search(self.search.source, self.search.destination) {
@@ -187,7 +178,7 @@ impl Asked<'_, '_> {
         requires low_in_time { release low.0 self.now.search.now.span.0 ≤ last_shown }
         ensures { result ≡ chosen (break_off_of self.now low.0) (choice_of self.now low.0 latest.0) }
     {
-        let mut known = self.known();
+        let mut known = nothing_known();
         if let Some(granted) = self.first_start(&mut known, low, latest) {
             return Ok(granted);
         }
@@ -200,7 +191,7 @@ impl Asked<'_, '_> {
 
 // The links of a path.
 fn links_of(path: &Path) -> LinkSet
-    ensures { (i : ℕ) → i < path.now.count → i < most_hops → has result.bits (get_or path.now.links i 0 % most_links) ≡ true }
+    ensures { All (λ l. has result.bits (l % most_links) ≡ true) (take path.now.count path.now.links) }
 {
     let mut bits = 0;
     for place in 0..PATH_LINKS.min(path.count as usize) {

@@ -10,7 +10,7 @@ ghost use Rattle.choice.specs.Known.{KnownOf};
 ghost use Rattle.listing.specs.Ranges.{ranges_of, list_table, start_of, start_granted};
 ghost use Rattle.listing.specs.Right.{RunEnd};
 
-use choice::{Asked, Granted, Known};
+use choice::{Asked, Granted, Known, nothing_known};
 use units::{Minute, end_minute};
 
 // The start that was found, where one was.
@@ -70,7 +70,7 @@ pub fn list_ranges(asked: &Asked, low: Minute, latest: Minute, list: &mut [u32])
     ensures count { result ≡ length (ranges_of asked.now low.0 latest.0) }
     ensures written { list.new ≡ list_table (ranges_of asked.now low.0 latest.0) }
 {
-    let mut known = asked.known();
+    let mut known = nothing_known();
     let mut count: u32 = 0;
     let mut next = start_granted(asked.first_start(&mut known, low, latest));
     while let Some(start) = next {

@@ -1,12 +1,13 @@
 -- Sets of numbers as bits: which numbers a union, a difference, one number alone and the rest without the lowest have.
-use mathlib.Core.Path.{◌≡◌, refl, sym, ◌∙◌, ap}
+use mathlib.Core.Path.{◌≡◌, refl, sym, ◌∙◌, ap, ap₂}
 use mathlib.Core.Logic.{◌≢◌}
 use mathlib.Core.Bool.{Bool, true, false, not, ◌&&◌, ◌||◌, and-eq-true_iff}
-use Prim.Native.Nat.{ℕ, zero, suc, ◌-◌, ◌*◌, ◌/◌, ◌%◌, ◌^◌, ◌<◌, min, max}
+use Prim.Native.Nat.{ℕ, zero, suc, ◌-◌, ◌*◌, ◌/◌, ◌%◌, ◌^◌, ◌≤◌, ◌<◌, min, max}
+use native.Mathlib.Nat.{le_refl}
 use native.Mathlib.Decide.{ℕ_discrete, dec_lt}
 use native.Mathlib.Omega.{arith}
-use lib.Dec.{eqb}
-use borrow.Author.Tests.{eqb-true, eq-eqb, ne_eqb}
+use lib.Dec.{eqb, ltb}
+use borrow.Author.Tests.{lt-ltb, le-ltb, ltb-true, eqb-true, eq-eqb, ne_eqb}
 use mir.Val.{bits}
 use Rattle.std.specs.Int.{Width, bit_at, bit_not, trailing_zeros}
 use Rattle.std.specs.Int.Bits.{bit_and, bit_or}
@@ -162,6 +163,17 @@ module _ (w : Width) where
       (z.0, record { in_set = bit_has set (trailing_zeros w set) z.1; before = λ i h. no_bit_has_not set i (z.2 i h) })
 
 -- a set has a number exactly where it is not empty
+some_bit : (most set : ℕ) → set ≤ most → 0 < set → (i : ℕ) × (bit_at set i ≡ 1)
+some_bit zero set h some = absurd (omega arith)
+some_bit (suc most) set h some =
+    elim (ℕ_discrete (set % 2) 1) [
+      | yes e ↦ (0, bit_at_lowest set ∙ e)
+      | no d ↦ let r = some_bit most (set / 2) (omega arith) (omega arith) in (suc r.0, bit_at-suc set r.0 ∙ r.1)
+    ]
+
+pub some_has : (set : ℕ) → 0 < set → (i : ℕ) × (has set i ≡ true)
+some_has set some = let r = some_bit set set (le_refl set) some in (r.0, bit_has set r.0 r.1)
+
 pub has_some : (set i : ℕ) → has set i ≡ true → 0 < set
 has_some set i h = elim (ℕ_discrete set 0) [ yes e ↦ clash (ap (λ s. has s i) (sym e) ∙ h) (has_none i) | no d ↦ omega arith ]
 
@@ -200,3 +212,37 @@ module _ (test : ℕ → Bool) where
           let o = (and-eq-true_iff (has (bit_and set (set - 1)) s.0) (test s.0)).0 s.2 in
           let w = (and-eq-true_iff (has set s.0) (not (eqb s.0 t))).0 (sym (has_rest set t lowest s.0) ∙ o.0) in
           some_anyBelow all n s.0 s.1 ((and-eq-true_iff (has set s.0) (test s.0)).1 (w.0, o.1)))
+
+-- ---- a set that is made in turn: it has the numbers below n that pass a test
+
+module _ (test : ℕ → Bool) (set n : ℕ) (below : (k : ℕ) → has set k ≡ (ltb k n && test k)) where
+  one_more : (k : ℕ) → k ≢ n → ltb k n ≡ ltb k (suc n)
+  one_more k d =
+      same_test (ltb k n) (ltb k (suc n)) (λ e. let z = ltb-true k n e in lt-ltb k (suc n) (omega arith)) (λ e. let z = ltb-true k (suc n) e in lt-ltb k n (omega arith))
+
+  -- the next number passes: it is put in
+  pub has_next : (w : Width) → n < bits w → test n ≡ true → (k : ℕ) → has (bit_or set (1 * 2 ^ n % 2 ^ bits w)) k ≡ (ltb k (suc n) && test k)
+  has_next w fits passes k =
+      has_or set (1 * 2 ^ n % 2 ^ bits w) k
+      ∙ ap₂ ◌||◌ (below k) (has_one w n k fits)
+      ∙ elim (ℕ_discrete k n) [
+        | yes e ↦ right_or (ltb k n && test k) (eqb k n) (eq-eqb k n e) ∙ sym ((and-eq-true_iff (ltb k (suc n)) (test k)).1 (lt-ltb k (suc n) (omega arith), ap test e ∙ passes))
+        | no d ↦ ap (λ b. (ltb k n && test k) || b) (ne_eqb k n d) ∙ or_false (ltb k n && test k) ∙ ap (λ b. b && test k) (one_more k d)
+      ]
+    where
+      or_false : (b : Bool) → (b || false) ≡ b
+      or_false true = refl
+      or_false false = refl
+
+  -- it does not: the set stays
+  pub has_same : test n ≡ false → (k : ℕ) → has set k ≡ (ltb k (suc n) && test k)
+  has_same fails k =
+      below k
+      ∙ elim (ℕ_discrete k n) [
+        | yes e ↦ ap₂ ◌&&◌ (le-ltb k n (omega arith)) (ap test e ∙ fails) ∙ sym (ap (λ b. ltb k (suc n) && b) (ap test e ∙ fails) ∙ and_false (ltb k (suc n)))
+        | no d ↦ ap (λ b. b && test k) (one_more k d)
+      ]
+    where
+      and_false : (b : Bool) → (b && false) ≡ false
+      and_false true = refl
+      and_false false = refl

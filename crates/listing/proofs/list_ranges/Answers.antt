@@ -49,6 +49,9 @@ following c =
     next_start (graph a.search.now.ends) (carried (wanted a.search.now) a.table.events.now a.table.figures.now) a.search.now.source a.search.now.destination c.run_end-end.result.0 c.args.latest.0
     (minute_or (suc c.args.latest.0) c.next_start-next.result) c.run_end-end.ensures.run.not_past (ap (minute_or (suc c.args.latest.0)) c.next_start-next.ensures.next)
 
+pub first_start-requires-clause-known : goal.first_start-requires-clause-known
+first_start-requires-clause-known c = c.nothing_known-known.ensures c.args.asked.now
+
 pub loop-next-init : goal.loop-next-init
 loop-next-init c =
     let a = c.args.asked.now in

@@ -5,6 +5,7 @@ use borrow.Author.Tests.{eq-eqb}
 use Rattle.units.specs.Limits.{most_links}
 use Rattle.units.specs.Sets.{has}
 use Rattle.units.proofs.Sets.{has_or, has_one}
+use Rattle.choice.proofs.Tries.{all_taken}
 use Rattle.choice.proofs.asked.links_of.Goals as goal
 
 or_right : (a b : Bool) → b ≡ true → (a || b) ≡ true
@@ -27,4 +28,6 @@ loop-place-preserved c = λ i h.
     ]
 
 pub returns : goal.returns
-returns c = λ i h k. c.loop-place.invariant i (omega (arith, c.min-place-end.ensures))
+returns c =
+    let bits = c.loop-place.bits in
+    all_taken (λ l. has bits (l % most_links) ≡ true) c.args.path.now.count c.args.path.now.links (λ i h k. c.loop-place.invariant i (omega (arith, c.min-place-end.ensures)))

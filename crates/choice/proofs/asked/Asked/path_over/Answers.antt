@@ -20,8 +20,7 @@ returns-in-Along-clause-known c =
     let s = c.args.self.now.search.now in
     let over : LinkEnds → Option Path = λ ends. found_path (route (graph ends) (has c.args.links.bits) s.destination s.source) in
     record {
-      links = c.requires.links;
       kept = c.requires.kept;
       cut = c.requires.cut;
-      held = held_leads s (has c.args.links.bits) c.in-Along.path c.links_of.result.bits (sym (ap path_in c.in-Along.is) ∙ c.search.ensures.path ∙ ap over c.requires.links) c.links_of.ensures;
+      held = held_leads s (has c.args.links.bits) c.in-Along.path c.links_of.result.bits (sym (ap path_in c.in-Along.is) ∙ c.search.ensures.path ∙ ap over c.args.self.now.same_links) c.links_of.ensures;
     }
