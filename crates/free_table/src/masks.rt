@@ -19,8 +19,8 @@ const LANES: usize = 16;
 // Which of these links, from one on, have at least the bandwidth in a row, as bits.
 fn lanes(row: &[u32; ROW], from: usize, bandwidth: Bandwidth) -> u64
     requires { from + 16 ≤ most_links }
-    ensures few { result < 2 ^ 16 }
     ensures enough { (l : ℕ) → l < 16 → has result l ≡ leb bandwidth.0 (get_or row.now (from + l) 0) }
+    ensures few { result < 2 ^ 16 }
 {
     let figures = u32x16::from_slice(&row[from..]);
     u32x16::splat(bandwidth.0).simd_le(figures).to_bitmask()

@@ -8,12 +8,6 @@ use Rattle.units.specs.Sets.{has}
 use Rattle.free_table.proofs.Lanes.{compared, compared_few, compared_has}
 use Rattle.free_table.proofs.masks.lanes.Goals as goal
 
-pub returns-clause-few : goal.returns-clause-few
-returns-clause-few c =
-    let part = mid_of c.args.from (64 - c.args.from) c.args.row.now in
-    let long : length (chunk 0 16 part) ≡ 16 = length-chunk 0 16 part (search rules) in
-    rw (compared c.args.bandwidth.0 (chunk 0 16 part) long) (compared_few c.args.bandwidth.0 (chunk 0 16 part) long)
-
 pub returns-clause-enough : goal.returns-clause-enough
 returns-clause-enough c l h =
     let part = mid_of c.args.from (64 - c.args.from) c.args.row.now in
@@ -23,3 +17,9 @@ returns-clause-enough c l h =
     ap (λ m. has m l) (compared c.args.bandwidth.0 (chunk 0 16 part) long)
     ∙ compared_has c.args.bandwidth.0 (chunk 0 16 part) long l h
     ∙ ap (leb c.args.bandwidth.0) (get_or-chunk 0 16 part l 0 h ∙ first ∙ figure)
+
+pub returns-clause-few : goal.returns-clause-few
+returns-clause-few c =
+    let part = mid_of c.args.from (64 - c.args.from) c.args.row.now in
+    let long : length (chunk 0 16 part) ≡ 16 = length-chunk 0 16 part (search rules) in
+    rw (compared c.args.bandwidth.0 (chunk 0 16 part) long) (compared_few c.args.bandwidth.0 (chunk 0 16 part) long)
