@@ -14,7 +14,7 @@ module _ (g : Graph) (usable : ℕ → Bool) where
 
   -- the layers of these links
   pub record LayersOf (layers : Layers) : Type 0 where
-    pub nodes : (near : ℕ) → near ≤ last_node → NodesAt g usable (away layers) near (get_or layers.nodes near 0)
+    pub nodes : (near : ℕ) → near ≤ last_node → NodesAt (away layers) near (get_or layers.nodes near 0)
     pub links : (near : ℕ) → near ≤ last_node → LinksAt g usable (away layers) near (get_or layers.links near 0)
     pub met : layers.destination ≤ last_node → has layers.met layers.destination ≡ true
     pub number : max 1 layers.number ≡ suc (most_needed g usable layers.destination)
