@@ -52,9 +52,7 @@ impl Asked<'_, '_> {
         let search = self.search;
         let mut bits = 0;
         for (link, &lacking) in until.iter().enumerate() {
-            if end.0 <= lacking {
-                bits |= 1 << link;
-            }
+            bits |= u64::from(end.0 <= lacking) << link;
         }
         let network = Network {
             net: self.net,

@@ -3,13 +3,13 @@ use mathlib.Core.Path.{◌≡◌, refl, sym, ◌∙◌, ap, ap₂}
 use mathlib.Core.Logic.{◌≢◌}
 use mathlib.Core.Bool.{Bool, true, false, not, ◌&&◌, ◌||◌, and-eq-true_iff}
 use Prim.Native.Nat.{ℕ, zero, suc, ◌-◌, ◌*◌, ◌/◌, ◌%◌, ◌^◌, ◌≤◌, ◌<◌, min, max}
-use native.Mathlib.Nat.{le_refl}
+use native.Mathlib.Nat.{le_refl, zero-mul, zero-mod}
 use native.Mathlib.Decide.{ℕ_discrete, dec_lt}
 use native.Mathlib.Omega.{arith}
 use lib.Dec.{eqb, ltb}
 use borrow.Author.Tests.{lt-ltb, le-ltb, ltb-true, eqb-true, eq-eqb, ne_eqb}
 use mir.Val.{bits}
-use Rattle.std.specs.Int.{Width, bit_at, bit_not, trailing_zeros}
+use Rattle.std.specs.Int.{Width, bit_at, bit_not, trailing_zeros, from_bool}
 use Rattle.std.specs.Int.Bits.{bit_and, bit_or}
 use Rattle.std.proofs.lemmas.Nat.{one_shl}
 use Rattle.std.proofs.lemmas.Nat.Bits.{bit_at-zero, bit_at-suc, bit_at_lowest, bit_at-lt, bit_at_and, bit_at_or, bit_at_not, bit_at-pow_same, bit_at-pow_other, bit_at_above, bit_at-trailing_zeros, same_from_bits}
@@ -249,3 +249,20 @@ module _ (test : ℕ → Bool) (set n : ℕ) (below : (k : ℕ) → has set k �
       and_false : (b : Bool) → (b && false) ≡ false
       and_false true = refl
       and_false false = refl
+
+  -- either, without a branch: `set | (test as word) << n`
+  pub has_put : (w : Width) → n < bits w → (k : ℕ) → has (bit_or set (from_bool (test n) * 2 ^ n % 2 ^ bits w)) k ≡ (ltb k (suc n) && test k)
+  has_put w fits k = by (test n) refl
+    where
+      or_false : (b : Bool) → (b || false) ≡ b
+      or_false true = refl
+      or_false false = refl
+
+      by : (b : Bool) → test n ≡ b → has (bit_or set (from_bool b * 2 ^ n % 2 ^ bits w)) k ≡ (ltb k (suc n) && test k)
+      by true e = has_next w fits e k
+      by false e =
+          has_or set (0 * 2 ^ n % 2 ^ bits w) k
+          ∙ ap (λ s. has set k || has s k) (ap (λ x. x % 2 ^ bits w) (zero-mul (2 ^ n)) ∙ zero-mod (2 ^ bits w))
+          ∙ ap (λ b. has set k || b) (has_none k)
+          ∙ or_false (has set k)
+          ∙ has_same e k

@@ -1,30 +1,26 @@
 -- path_until meets its contract: the set has the links that last to the minute, and the route depends on nothing else.
 use mathlib.Core.Path.{◌≡◌, refl, ◌∙◌, ap}
 use mathlib.Core.Bool.{Bool, ◌&&◌}
-use Prim.Native.Nat.{ℕ, ◌<◌}
+use Prim.Native.Nat.{ℕ, ◌*◌, ◌%◌, ◌^◌, ◌<◌}
 use native.Mathlib.Numerals.{add-one}
 use native.Mathlib.Omega.{arith}
-use lib.ListN.{get_or}
-use borrow.Author.Tests.{le-leb, lt-leb, lt-ltb}
+use borrow.Author.Tests.{lt-ltb}
 use Rattle.std.specs.Int.{w64}
+use Rattle.std.specs.Int.Bits.{bit_or}
 use Rattle.units.specs.Sets.{has}
-use Rattle.units.proofs.Sets.{has_next, has_same}
+use Rattle.units.proofs.Sets.{has_put}
 use Rattle.path_search.specs.Paths.{route}
 use Rattle.path_search.specs.Answer.{graph, found_path}
 use Rattle.path_search.proofs.Agree.{route_agree}
 use Rattle.choice.specs.BreakOff.{lasts_to}
 use Rattle.choice.proofs.asked.Asked.path_until.Goals as goal
-use Rattle.choice.proofs.asked.Asked.path_until.Goals.{then-end-lacking, else-end-lacking}
 
 pub loop-link-preserved : goal.loop-link-preserved
 loop-link-preserved c =
     let l = c.loop-link in
     let last : ℕ → Bool = lasts_to c.args.until.now c.args.end.0 in
     rw add-one
-    (elim c.if-end-lacking.branch [
-      | then-end-lacking w ↦ λ k. ap (λ s. has s k) w.bits-is ∙ has_next last l.bits l.link l.invariant w64 (omega (arith, c.loop-link-test.true)) (le-leb c.args.end.0 (get_or c.args.until.now l.link 0) w.if-end-lacking.true) k
-      | else-end-lacking w ↦ λ k. ap (λ s. has s k) w.bits-is ∙ has_same last l.bits l.link l.invariant (lt-leb c.args.end.0 (get_or c.args.until.now l.link 0) w.if-end-lacking.false) k
-    ])
+    (λ k. ap (λ x. has (bit_or l.bits (x * 2 ^ l.link % 2 ^ 64)) k) c.from.ensures ∙ has_put last l.bits l.link l.invariant w64 (omega (arith, c.loop-link-test.true)) k)
 
 pub returns : goal.returns
 returns c =
