@@ -1,19 +1,15 @@
 -- What the tries of a call leave for those after them: without a link of a cut there is no path, and over the links of a path that
 -- was found there is one.
-use mathlib.Core.Path.{◌≡◌, refl, sym, ◌∙◌, ap, ap₂}
+use mathlib.Core.Path.{◌≡◌, refl, sym, ◌∙◌, ap}
 use mathlib.Core.List.{List, [], ◌∷◌}
-use mathlib.Core.Bool.{Bool, true, false, not, ◌&&◌}
-use Prim.Native.Nat.{ℕ, zero, suc, ◌%◌, ◌^◌, ◌<◌, zero-le, suc-le-suc}
+use mathlib.Core.Bool.{Bool, true}
+use Prim.Native.Nat.{ℕ, zero, suc, ◌%◌, ◌<◌, zero-le, suc-le-suc}
 use native.Mathlib.Omega.{arith}
 use lib.ListN.{length, get_or, take}
-use Rattle.std.proofs.Common.{Some, w64}
-use Rattle.std.specs.Int.{bit_not}
-use Rattle.std.specs.Int.Bits.{bit_and}
+use Rattle.std.proofs.Common.{Some}
 use Rattle.units.specs.Limits.{most_links}
 use Rattle.units.specs.Lists.{All}
 use Rattle.units.specs.Sets.{has}
-use Rattle.units.proofs.Search.{not_true, clash}
-use Rattle.units.proofs.Sets.{has_and, has_none, has_not, has_below}
 use Rattle.path_search.specs.declared.Path.{Path}
 use Rattle.path_search.specs.Paths.{Route, along, none, route}
 use Rattle.path_search.specs.Answer.{graph, found_path}
@@ -23,19 +19,6 @@ use Rattle.choice.specs.declared.search.Search.{Search}
 use Rattle.choice.specs.Earliest.{is_granted, can_start}
 use Rattle.choice.specs.Choice.{grant_at, possible}
 use Rattle.choice.specs.Known.{leads_over}
-
--- sets that have no number in common, and one that is in the other
-pub apart : (a b : ℕ) → bit_and a b ≡ 0 → (l : ℕ) → has a l ≡ true → has b l ≡ false
-apart a b e l h = not_true (has b l) (λ q. clash (has_and a b l ∙ ap₂ ◌&&◌ h q) (ap (λ s. has s l) e ∙ has_none l))
-
-pub within : (a b : ℕ) → a < 2 ^ 64 → b < 2 ^ 64 → bit_and a (bit_not w64 b) ≡ 0 → (l : ℕ) → has a l ≡ true → has b l ≡ true
-within a b few_a few_b e l h = by (has b l) refl
-  where
-    by : (t : Bool) → has b l ≡ t → has b l ≡ true
-    by true q = q
-    by false q = clash (has_not w64 b l few_b (has_below w64 a l few_a h) ∙ ap not q) (apart a (bit_not w64 b) e l h)
-
--- ---- links that are tested alike
 
 module _ (s : Search) where
   -- a set has those of the graph's links that pass the test

@@ -84,7 +84,7 @@ impl Asked<'_, '_> {
         ensures known { KnownOf self.now known.new }
     {
         if let Some(held) = known.held {
-            if held.bits & !links.bits == 0 {
+            if links.bits & held.bits == held.bits {
                 return true;
             }
         }

@@ -5,13 +5,13 @@ use mathlib.Core.Bool.{Bool, true, false, ◌&&◌}
 use Prim.Native.Nat.{ℕ, zero, suc, ◌+◌, ◌-◌, ◌*◌, ◌/◌, ◌^◌, ◌≤◌, ◌<◌}
 use native.Mathlib.Omega.{arith}
 use lib.Dec.{leb, ltb, eqb}
-use lib.ListN.{length, get_or, take, drop}
+use lib.ListN.{length, get_or, drop}
 use Rattle.std.proofs.Math.Seq.{get_or-take, get_or-drop}
 use Rattle.std.specs.Simd.{first_chunks}
 use Rattle.std.specs.Int.Bits.{bit_and}
 use Rattle.std.proofs.lemmas.Nat.Bits.{bit_at_ones}
 use Rattle.units.specs.Limits.{most_links}
-use Rattle.units.specs.Search.{is_nothing, first_from, all_from}
+use Rattle.units.specs.Search.{is_nothing, all_from}
 use Rattle.units.specs.Sets.{has}
 use Rattle.units.proofs.Search.{all_from_agree, none_fails}
 use Rattle.units.proofs.Sets.{has_and}
@@ -67,7 +67,7 @@ module _ (es : List ℕ) (start end : ℕ) (t : List ℕ) (l bandwidth : ℕ) (c
   unfolding first_missing
   enough_rows =
       sym (none_fails (λ i. leb bandwidth (get_or (get_or (span_rows es start end t) i []) l 0)) (λ i. ltb (get_or (get_or (span_rows es start end t) i []) l 0) bandwidth)
-        (λ i. less_not (get_or (get_or (span_rows es start end t) i []) l 0) bandwidth) 0 (length (span_rows es start end t)))
+      (λ i. less_not (get_or (get_or (span_rows es start end t) i []) l 0) bandwidth) 0 (length (span_rows es start end t)))
       ∙ ap is_nothing (lacking_rows es start end t l bandwidth column)
       ∙ sym (found_nothing es start (lacking_row (suc (row_at es (end - 1) - row_at es start)) l bandwidth (drop (row_at es start * most_links) t)))
 

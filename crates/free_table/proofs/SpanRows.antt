@@ -5,10 +5,10 @@ use Rattle.std.specs.Simd.{first_chunks}
 use Rattle.std.specs.List.{position_from, position_or_len}
 use Rattle.std.proofs.lemmas.Iterator.Adapters.{position_from-zero}
 use Rattle.units.specs.Limits.{most_links}
-use Rattle.units.specs.Search.{Found, at, nothing, found_or, first_from}
+use Rattle.units.specs.Search.{Found, at, nothing, first_from}
 use Rattle.units.proofs.Search.{first_from_agree}
 use Rattle.timeline.specs.Events.{row_at}
-use Rattle.free_table.specs.Looking.{span_rows, lacking_row, row_minute, minute_found}
+use Rattle.free_table.specs.Looking.{span_rows, lacking_row}
 
 chunks_from : (size i k : ℕ) (t : List ℕ) → drop i (first_chunks size (i + k) t) ≡ first_chunks size k (drop (i * size) t)
 chunks_from size zero k t = rw (zero-add, zero-mul) refl

@@ -112,12 +112,7 @@ impl Masks {
 
     // Which links have at least the bandwidth free in every minute of an interval. The masks are those of one table and bandwidth; a
     // table of more rows than a desk's has its rows looked at each time.
-    pub fn throughout(
-        &mut self,
-        table: &FreeTable,
-        minutes: Interval,
-        bandwidth: Bandwidth,
-    ) -> u64
+    pub fn throughout(&mut self, table: &FreeTable, minutes: Interval, bandwidth: Bandwidth) -> u64
         requires { Kept self.old table.now.figures.now bandwidth.0 }
         ensures kept { Kept self.new table.now.figures.now bandwidth.0 }
         ensures enough { (l : ℕ) → l < most_links → has result l ≡ enough_span table.now.events.now minutes.start.0 minutes.end.0 l bandwidth.0 table.now.figures.now }

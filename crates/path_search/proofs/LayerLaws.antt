@@ -35,21 +35,21 @@ module _ (g : Graph) (usable : ℕ → Bool) (target : ℕ) (below : NodesBelow 
   Leads l n = (l < g.count) × (usable l ≡ true) × Away (g.to l) n
 
   -- the nodes that need n links, the links to them, and the nodes that need n or fewer
-  abbrev NodesOf : ℕ → ℕ → Type 0
-  NodesOf n nodes = (v : ℕ) → v ≤ last_node → Tells (has nodes v) (Away v n)
+  abbrev NodesBy : ℕ → ℕ → Type 0
+  NodesBy n nodes = (v : ℕ) → v ≤ last_node → Tells (has nodes v) (Away v n)
 
-  abbrev LinksOf : ℕ → ℕ → Type 0
-  LinksOf n links = (l : ℕ) → Tells (has links l) (Leads l n)
+  abbrev LinksBy : ℕ → ℕ → Type 0
+  LinksBy n links = (l : ℕ) → Tells (has links l) (Leads l n)
 
   abbrev MetBy : ℕ → ℕ → Type 0
   MetBy n met = (v : ℕ) → v ≤ last_node → Tells (has met v) ((m : ℕ) × (m ≤ n) × Away v m)
 
   -- n rounds are done, each from some node on
   pub record Going (nodes links : List ℕ) (frontier met n : ℕ) : Type 0 where
-    pub frontier_of : NodesOf n frontier
+    pub frontier_of : NodesBy n frontier
     pub met_by : MetBy n met
-    pub nodes_of : (j : ℕ) → j < n → NodesOf j (get_or nodes j 0)
-    pub links_of : (j : ℕ) → j < n → LinksOf j (get_or links j 0)
+    pub nodes_of : (j : ℕ) → j < n → NodesBy j (get_or nodes j 0)
+    pub links_of : (j : ℕ) → j < n → LinksBy j (get_or links j 0)
     pub no_nodes : (j : ℕ) → n ≤ j → get_or nodes j 0 ≡ 0
     pub no_links : (j : ℕ) → n ≤ j → get_or links j 0 ≡ 0
     pub some : (j : ℕ) → j < n → (v : ℕ) × Away v j
@@ -86,7 +86,7 @@ module _ (g : Graph) (usable : ℕ → Bool) (target : ℕ) (below : NodesBelow 
     -- the next round, over the links that lead to the frontier
     module _ (layer next : ℕ) (leads : (l : ℕ) → has layer l ≡ (ltb l g.count && usable l && has frontier (g.to l)))
         (new : (v : ℕ) → v ≤ last_node → has next v ≡ (sources g layer v && not (has met v))) where
-      layer_of : LinksOf n layer
+      layer_of : LinksBy n layer
       layer_of l = (there, back)
         where
           there : has layer l ≡ true → Leads l n
@@ -103,7 +103,7 @@ module _ (g : Graph) (usable : ℕ → Bool) (target : ℕ) (below : NodesBelow 
                 (going.frontier_of (g.to l) (let b = below.to_below l r.0 in omega arith)).1 r.2,
               )
 
-      next_of : NodesOf (suc n) next
+      next_of : NodesBy (suc n) next
       next_of v h = (there, back)
         where
           there : has next v ≡ true → Away v (suc n)
@@ -133,12 +133,12 @@ module _ (g : Graph) (usable : ℕ → Bool) (target : ℕ) (below : NodesBelow 
             frontier_of = next_of;
             met_by = met_by;
             nodes_of = λ j a. elim (ℕ_discrete j n) [
-              | yes q ↦ subst (NodesOf j) (sym (ap (λ k. get_or (set nodes n frontier) k 0) q ∙ get_or-set_same nodes n frontier 0 room_nodes)) (subst (λ k. NodesOf k frontier) (sym q) going.frontier_of)
-              | no d ↦ subst (NodesOf j) (sym (get_or-set_other nodes n j frontier 0 d)) (going.nodes_of j (omega arith))
+              | yes q ↦ subst (NodesBy j) (sym (ap (λ k. get_or (set nodes n frontier) k 0) q ∙ get_or-set_same nodes n frontier 0 room_nodes)) (subst (λ k. NodesBy k frontier) (sym q) going.frontier_of)
+              | no d ↦ subst (NodesBy j) (sym (get_or-set_other nodes n j frontier 0 d)) (going.nodes_of j (omega arith))
             ];
             links_of = λ j a. elim (ℕ_discrete j n) [
-              | yes q ↦ subst (LinksOf j) (sym (ap (λ k. get_or (set links n layer) k 0) q ∙ get_or-set_same links n layer 0 room_links)) (subst (λ k. LinksOf k layer) (sym q) layer_of)
-              | no d ↦ subst (LinksOf j) (sym (get_or-set_other links n j layer 0 d)) (going.links_of j (omega arith))
+              | yes q ↦ subst (LinksBy j) (sym (ap (λ k. get_or (set links n layer) k 0) q ∙ get_or-set_same links n layer 0 room_links)) (subst (λ k. LinksBy k layer) (sym q) layer_of)
+              | no d ↦ subst (LinksBy j) (sym (get_or-set_other links n j layer 0 d)) (going.links_of j (omega arith))
             ];
             no_nodes = λ j a. get_or-set_other nodes n j frontier 0 (λ q. omega arith) ∙ going.no_nodes j (omega arith);
             no_links = λ j a. get_or-set_other links n j layer 0 (λ q. omega arith) ∙ going.no_links j (omega arith);
@@ -169,7 +169,7 @@ module _ (g : Graph) (usable : ℕ → Bool) (target : ℕ) (below : NodesBelow 
       no_more =
           none_further g usable target below n (λ v h f. clash ((going.frontier_of v h).1 f) (ap (λ s. has s v) stop ∙ has_none v))
 
-      at_node : (j : ℕ) → NodesOf j (get_or nodes j 0)
+      at_node : (j : ℕ) → NodesBy j (get_or nodes j 0)
       at_node j =
           elim (dec_lt j n) [
             | yes a ↦ going.nodes_of j a
@@ -177,7 +177,7 @@ module _ (g : Graph) (usable : ℕ → Bool) (target : ℕ) (below : NodesBelow 
                 ((λ e. clash e (ap (λ s. has s v) (going.no_nodes j (omega arith)) ∙ has_none v)), λ f. absurd (no_more j v (omega arith) h f))
           ]
 
-      at_link : (j : ℕ) → LinksOf j (get_or links j 0)
+      at_link : (j : ℕ) → LinksBy j (get_or links j 0)
       at_link j =
           elim (dec_lt j n) [
             | yes a ↦ going.links_of j a

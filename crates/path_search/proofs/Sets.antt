@@ -1,9 +1,8 @@
 -- Sets of nodes and links: which links the nodes of a set have, by the links of each node.
 use mathlib.Core.Path.{◌≡◌, refl, sym, ◌∙◌, ap, ap₂}
-use mathlib.Core.Logic.{◌≢◌}
 use mathlib.Core.List.{List}
 use mathlib.Core.Bool.{Bool, true, false, not, ◌&&◌, ◌||◌, and-eq-true_iff}
-use Prim.Native.Nat.{ℕ, suc, ◌+◌, ◌-◌, ◌*◌, ◌%◌, ◌^◌, ◌≤◌, ◌<◌, zero-le, suc-le-suc}
+use Prim.Native.Nat.{ℕ, ◌+◌, ◌-◌, ◌*◌, ◌%◌, ◌^◌, ◌≤◌, ◌<◌, zero-le, suc-le-suc}
 use native.Mathlib.Numerals.{add-one}
 use native.Mathlib.Decide.{ℕ_discrete}
 use native.Mathlib.Omega.{arith}
@@ -18,7 +17,7 @@ use Rattle.units.specs.Sets.{has}
 use Rattle.units.specs.Search.{at, first_from, any_below}
 use Rattle.units.proofs.Search.{IsFirst, any_below_some, some_anyBelow, first_from_found, first_from_first}
 use Rattle.units.proofs.Sets.{Lowest, has_and, has_or, has_one, has_rest, has_some, lowest_left, has_next, has_same, lowest_is}
-use Rattle.units.proofs.Tests.{Tells, same_test, right_or}
+use Rattle.units.proofs.Tests.{Tells, same_test}
 use Rattle.path_search.specs.Paths.{Graph, onward}
 use Rattle.path_search.specs.Ends.{LinksOf}
 use Rattle.path_search.specs.Rounds.{far, figures, marked, joined, sources, LinksAt}

@@ -3,13 +3,13 @@
 // bookings, and draws no tie at random.
 #![tactic(auto)]
 
-ghost use Rattle.std.specs.Prelude.{◌≡◌, [], true, false, ◌&&◌, not, ℕ, suc, ◌≤◌, ◌<◌, eqb, ltb};
-ghost use Rattle.units.specs.Limits.{last_node, most_hops};
+ghost use Rattle.std.specs.Prelude.{◌≡◌, [], true, false, ◌&&◌, ℕ, suc, ◌≤◌, ◌<◌, eqb, ltb};
+ghost use Rattle.units.specs.Limits.{last_node};
 ghost use Rattle.units.specs.Search.{at, is_nothing};
 ghost use Rattle.units.specs.Sets.{has};
 ghost use Rattle.path_search.specs.Paths.{route, fewest};
 ghost use Rattle.path_search.specs.Rounds.{Shows, figures, distance, marked, joined, sources};
-ghost use Rattle.path_search.specs.Layers.{LayersOf, away};
+ghost use Rattle.path_search.specs.Layers.{LayersIn, away_in};
 ghost use Rattle.path_search.specs.Needed.{most_needed};
 ghost use Rattle.path_search.specs.Picks.{nearer_link, picked, Walkable};
 ghost use Rattle.path_search.specs.Answer.{graph_of, usable_in, found_number, path_of, found_path, path_in, Cuts, CutRight};
@@ -45,7 +45,7 @@ pub struct Path {
     pub links: [u32; PATH_LINKS],
 }
 
-// What a search finds: the path, or links of which each path has one, where none of them can be used.
+// What a search finds: the path; or, where there is none, a cut, links without which there is no path whatever others can be used.
 #[derive(Clone, Copy)]
 pub enum Searched {
     Along(Path),
@@ -145,7 +145,7 @@ impl Network<'_> {
     // The rounds from the destination on: each goes on from the nodes that the one before met first, and the first that meets none
     // is the last.
     fn layers(self, destination: u32) -> Layers
-        ensures of { LayersOf (graph_of self.entry) (usable_in self.entry) result }
+        ensures of { LayersIn self.entry result }
         ensures destination { result.destination ≡ destination }
     {
         let mut nodes = [0; NODES];
@@ -192,7 +192,7 @@ impl Network<'_> {
 
     // The fewest links of a path from the source, if there is one.
     fn fewest_links(self, layers: &Layers, source: u32) -> Option<u32>
-        requires { LayersOf (graph_of self) (usable_in self) layers.now }
+        requires { LayersIn self layers.now }
         ensures { result ≡ found_number (fewest (graph_of self.entry) (usable_in self.entry) layers.now.destination source) }
     {
         if LAST_NODE < source {
@@ -206,10 +206,10 @@ impl Network<'_> {
 
     // The lowest usable link out of the node to a node from which `near` links lead to the destination.
     fn nearer_link(self, layers: &Layers, node: u32, near: u32) -> LinkNumber
-        requires layers { LayersOf (graph_of self) (usable_in self) layers.now }
+        requires layers { LayersIn self layers.now }
         requires near { near ≤ last_node }
-        requires some { is_nothing (nearer_link (graph_of self) (usable_in self) (away (graph_of self) (usable_in self) layers.now) node near) ≡ false }
-        ensures { nearer_link (graph_of self.entry) (usable_in self.entry) (away (graph_of self.entry) (usable_in self.entry) layers.now) node near ≡ at result.0 }
+        requires some { is_nothing (nearer_link (graph_of self) (usable_in self) (away_in self layers.now) node near) ≡ false }
+        ensures { nearer_link (graph_of self.entry) (usable_in self.entry) (away_in self.entry layers.now) node near ≡ at result.0 }
     {
         let links = self.net.out[node as usize] & layers.links[near as usize];
         LinkNumber(links.trailing_zeros())
@@ -217,9 +217,9 @@ impl Network<'_> {
 
     // The path of `count` links from the source on, each the lowest to a node from which one fewer leads to the destination.
     fn walk(self, layers: &Layers, source: u32, count: u32) -> Path
-        requires layers { LayersOf (graph_of self) (usable_in self) layers.now }
-        requires walkable { Walkable (graph_of self) (usable_in self) (away (graph_of self) (usable_in self) layers.now) count source }
-        ensures { result ≡ path_of (picked (graph_of self.entry) (usable_in self.entry) (away (graph_of self.entry) (usable_in self.entry) layers.now) count source) }
+        requires layers { LayersIn self layers.now }
+        requires walkable { Walkable (graph_of self) (usable_in self) (away_in self layers.now) count source }
+        ensures { result ≡ path_of (picked (graph_of self.entry) (usable_in self.entry) (away_in self.entry layers.now) count source) }
     {
         let mut links = [0; PATH_LINKS];
         let mut node = source;
@@ -233,7 +233,7 @@ impl Network<'_> {
 
     // The links that lead to the met nodes from any other node or from the source: each path from the source has one of them.
     fn cut(self, layers: &Layers, source: u32) -> LinkSet
-        requires { LayersOf (graph_of self) (usable_in self) layers.now }
+        requires { LayersIn self layers.now }
         ensures { Cuts (graph_of self.entry) source layers.now.destination result.bits }
     {
         let inside = layers.met & !node_set(source);

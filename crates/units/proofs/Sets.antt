@@ -11,7 +11,7 @@ use borrow.Author.Tests.{lt-ltb, le-ltb, ltb-true, eqb-true, eq-eqb, ne_eqb}
 use mir.Val.{bits}
 use Rattle.std.specs.Int.{Width, bit_at, bit_not, trailing_zeros}
 use Rattle.std.specs.Int.Bits.{bit_and, bit_or}
-use Rattle.std.proofs.lemmas.Nat.{one_shl, and_le_r}
+use Rattle.std.proofs.lemmas.Nat.{one_shl}
 use Rattle.std.proofs.lemmas.Nat.Bits.{bit_at-zero, bit_at-suc, bit_at_lowest, bit_at-lt, bit_at_and, bit_at_or, bit_at_not, bit_at-pow_same, bit_at-pow_other, bit_at_above, bit_at-trailing_zeros, same_from_bits}
 use Rattle.units.specs.Sets.{has}
 use Rattle.units.specs.Search.{any_below}
@@ -75,6 +75,13 @@ same_set a b h = same_from_bits a b (λ i. by i (has b i) refl)
     by i true e = has_bit a i (h i ∙ e) ∙ sym (has_bit b i e)
     by i false e = has_no_bit a i (h i ∙ e) ∙ sym (has_no_bit b i e)
 
+-- two sets with nothing in common, and one that lies in the other
+pub none_common : (a b i : ℕ) → bit_and a b ≡ 0 → has a i ≡ true → has b i ≡ false
+none_common a b i e h = not_true (has b i) (λ t. clash (has_and a b i ∙ (and-eq-true_iff (has a i) (has b i)).1 (h, t)) (ap (λ s. has s i) e ∙ has_none i))
+
+pub all_common : (a b i : ℕ) → bit_and a b ≡ b → has b i ≡ true → has a i ≡ true
+all_common a b i e h = ((and-eq-true_iff (has a i) (has b i)).0 (sym (has_and a b i) ∙ ap (λ s. has s i) e ∙ h)).0
+
 -- a number alone, unbounded
 pub has_power : (k i : ℕ) → has (2 ^ k) i ≡ eqb i k
 has_power k i =
@@ -137,10 +144,6 @@ module _ (set t : ℕ) (lowest : Lowest set t) where
       all : (b : Bool) → (b && true) ≡ b
       all true = refl
       all false = refl
-
--- and is a smaller figure
-pub rest_less : (set : ℕ) → 0 < set → bit_and set (set - 1) < set
-rest_less set h = omega (arith, and_le_r set (set - 1))
 
 module _ (w : Width) where
   -- `1 << k`: a number alone

@@ -6,14 +6,15 @@ use Rattle.path_search.specs.declared.Path.{Path}
 use Rattle.path_search.specs.Paths.{route}
 use Rattle.path_search.specs.Answer.{graph, found_path, path_in}
 use Rattle.choice.specs.Known.{CutKnown}
-use Rattle.choice.proofs.Tries.{apart, held_leads}
+use Rattle.units.proofs.Sets.{none_common}
+use Rattle.choice.proofs.Tries.{held_leads}
 use Rattle.choice.proofs.asked.Asked.path_over.Goals as goal
 
 pub returns-then-links-cut-eq0-clause-path : goal.returns-then-links-cut-eq0-clause-path
 returns-then-links-cut-eq0-clause-path c =
     let s = c.args.self.now.search.now in
     let cut = subst (CutKnown s) c.in-Some.is c.requires.cut in
-    sym (ap found_path (cut (has c.args.links.bits) (λ l h e. apart c.args.links.bits c.in-Some.cut.bits c.if-links-cut-eq0.true l e)))
+    sym (ap found_path (cut (has c.args.links.bits) (λ l h e. none_common c.args.links.bits c.in-Some.cut.bits l c.if-links-cut-eq0.true e)))
 
 pub returns-in-Along-clause-known : goal.returns-in-Along-clause-known
 returns-in-Along-clause-known c =

@@ -1,8 +1,7 @@
 -- `go_on_to` meets its contract: the masks of the rows before the loop's are kept.
-use Rattle.std.proofs.Common.{◌≡◌, [], ◌≤◌, ◌<◌, ◌/◌, ◌*◌, ℕ, List, leb, length, get_or, refl, ap, ◌∙◌, arith}
+use Rattle.std.proofs.Common.{[], leb, get_or, refl, ap, ◌∙◌, arith}
 use native.Mathlib.Decide.{ℕ_discrete}
 use lib.Seq.{get_or-set_same, get_or-set_other}
-use Rattle.units.specs.Limits.{most_links}
 use Rattle.units.specs.Sets.{has}
 use Rattle.free_table.proofs.MaskRows.{row_figure}
 use Rattle.free_table.proofs.masks.Masks.go_on_to.Goals as goal

@@ -1,5 +1,5 @@
 -- `throughout` meets its contract: a link has enough throughout the interval if and only if it has it in each of its rows.
-use Rattle.std.proofs.Common.{◌≡◌, [], ◌<◌, ◌+◌, ◌-◌, ℕ, Bool, List, leb, length, get_or, drop, sym, ap, ap₂, ◌∙◌, arith, rules}
+use Rattle.std.proofs.Common.{◌≡◌, [], ◌+◌, ◌-◌, leb, length, get_or, drop, ap, ◌∙◌, arith, rules}
 use borrow.Rule.Slice.PartMut.{mid_of}
 use Rattle.std.proofs.Math.Seq.{get_or-take, get_or-drop}
 use Rattle.units.specs.Search.{all_from}
@@ -37,8 +37,8 @@ returns-clause-enough c = λ l h.
     ∙ ap (λ n. all_from 0 n (λ i. has (get_or part i 0) l)) (long ∙ all)
     ∙ all_from_agree (λ i. has (get_or part i 0) l) (λ i. leb a.bandwidth.0 (get_or (get_or rows i []) l 0)) 0 (length rows)
     (λ i b k.
-      ap (λ m. has m l) (get_or-take (first + count - first) (drop first masks) i 0 (omega arith) ∙ get_or-drop first masks i 0)
-      ∙ kept.right (first + i) l (omega (arith, c.go_on_to.ensures.first, c.begin_at.ensures.first)) (omega (arith, c.go_on_to.ensures.past)) h
-      ∙ ap (λ r. enough_in t a.bandwidth.0 (r + i) l) c.rows-first.ensures.first
-      ∙ enough_row es a.minutes.start.0 a.minutes.end.0 t l a.bandwidth.0 h i (omega arith))
+    ap (λ m. has m l) (get_or-take (first + count - first) (drop first masks) i 0 (omega arith) ∙ get_or-drop first masks i 0)
+    ∙ kept.right (first + i) l (omega (arith, c.go_on_to.ensures.first, c.begin_at.ensures.first)) (omega (arith, c.go_on_to.ensures.past)) h
+    ∙ ap (λ r. enough_in t a.bandwidth.0 (r + i) l) c.rows-first.ensures.first
+    ∙ enough_row es a.minutes.start.0 a.minutes.end.0 t l a.bandwidth.0 h i (omega arith))
     ∙ enough_rows es a.minutes.start.0 a.minutes.end.0 t l a.bandwidth.0 h
