@@ -1,5 +1,5 @@
 -- Row by row from a minute on: the links that have the bandwidth in each row so far, and where every path over them breaks off.
-use mathlib.Core.Path.{◌≡◌, refl, sym, ◌∙◌, ap, subst}
+use mathlib.Core.Path.{◌≡◌, sym, ◌∙◌, ap, subst}
 use mathlib.Core.List.{List, []}
 use mathlib.Core.Bool.{Bool, true, false}
 use Prim.Native.Nat.{ℕ, suc, ◌+◌, ◌-◌, ◌^◌, ◌≤◌, ◌<◌}
@@ -85,12 +85,12 @@ module _ (a : Asked) (low : ℕ) where
       leads_lasts m b e r =
           leads_possible a.search.now (bit_and links mask) (carried_in (suc m - low)) low
           (λ l h.
-            let whole : low + (suc m - low) ≡ suc m = omega arith in
-            more_rows l h
-            ∙ ap (λ x. all_from 0 (i + 1) (enough x l)) is
-            ∙ enough_up_to es low end t l bandwidth h i m b e r
-            ∙ ap (λ n. enough_span es low n l bandwidth t) (sym whole)
-            ∙ enough_carries (clock a) (times a) es t a.are_events l bandwidth low (suc m - low) askable.not_past (omega arith))
+          let whole : low + (suc m - low) ≡ suc m = omega arith in
+          more_rows l h
+          ∙ ap (λ x. all_from 0 (i + 1) (enough x l)) is
+          ∙ enough_up_to es low end t l bandwidth h i m b e r
+          ∙ ap (λ n. enough_span es low n l bandwidth t) (sym whole)
+          ∙ enough_carries (clock a) (times a) es t a.are_events l bandwidth low (suc m - low) askable.not_past (omega arith))
 
       pub looked_next : leads_over a.search.now (bit_and links mask) ≡ true → Looked rows (bit_and links mask) (i + 1)
       looked_next leads = record {

@@ -1,5 +1,5 @@
 -- Where every path from a minute on breaks off. It knows nothing of bookings.
-use Rattle.std.specs.Prelude.{List, Bool, not, ℕ, suc, ◌+◌, ◌-◌, leb, get_or}
+use Rattle.std.specs.Prelude.{Bool, not, ℕ, suc, ◌+◌, ◌-◌}
 use Rattle.units.specs.Search.{found_or, first_from}
 use Rattle.path_search.specs.Paths.{Graph}
 use Rattle.choice.specs.Choice.{possible}

@@ -42,11 +42,7 @@ impl Asked<'_, '_> {
         ensures links { (l : ℕ) → l < most_links → has result.bits l ≡ carried (wanted self.now.search.now) self.now.table.events.now self.now.table.figures.now start.0 l }
     {
         let end = end_minute(start, self.search.span);
-        let bits = masks.throughout(
-            &self.table,
-            Interval { start, end },
-            self.search.bandwidth,
-        );
+        let bits = masks.throughout(&self.table, Interval { start, end }, self.search.bandwidth);
         LinkSet { bits }
     }
 

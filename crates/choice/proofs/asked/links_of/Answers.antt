@@ -1,5 +1,5 @@
 -- `links_of` meets its contract: the links at the places before `place` are in the set.
-use Rattle.std.proofs.Common.{◌≡◌, ◌<◌, ◌*◌, ◌%◌, ◌^◌, ℕ, Bool, true, false, ◌||◌, get_or, refl, ap, ◌∙◌, arith, w64}
+use Rattle.std.proofs.Common.{◌≡◌, ◌*◌, ◌%◌, ◌^◌, Bool, true, false, ◌||◌, get_or, refl, ap, ◌∙◌, arith, w64}
 use native.Mathlib.Decide.{ℕ_discrete}
 use borrow.Author.Tests.{eq-eqb}
 use Rattle.units.specs.Limits.{most_links}

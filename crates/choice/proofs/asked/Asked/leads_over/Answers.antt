@@ -1,5 +1,5 @@
 -- `leads_over` meets its contract: the links that are held are among those of the set, or a path is searched.
-use Rattle.std.proofs.Common.{◌≡◌, true, sym, ◌∙◌, subst}
+use Rattle.std.proofs.Common.{sym, ◌∙◌, subst}
 use Rattle.units.specs.Sets.{has}
 use Rattle.units.proofs.Sets.{all_common}
 use Rattle.path_search.specs.Answer.{graph}

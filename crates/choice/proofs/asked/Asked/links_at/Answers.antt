@@ -1,5 +1,5 @@
 -- `links_at` meets its contract: the links that have enough throughout the span carry it.
-use Rattle.std.proofs.Common.{◌≡◌, ap, ◌∙◌}
+use Rattle.std.proofs.Common.{ap, ◌∙◌}
 use Rattle.free_table.specs.Looking.{enough_span}
 use Rattle.choice.proofs.Exits.{clock, times}
 use Rattle.choice.proofs.Lent.{enough_carries}

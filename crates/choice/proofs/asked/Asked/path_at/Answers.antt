@@ -1,5 +1,5 @@
 -- `path_at` meets its contract: the links of the set carry the span, and the route depends on nothing else.
-use Rattle.std.proofs.Common.{◌≡◌, refl, ap, ◌∙◌, arith}
+use Rattle.std.proofs.Common.{ap, ◌∙◌}
 use Rattle.units.specs.Sets.{has}
 use Rattle.path_search.specs.Answer.{graph, found_path}
 use Rattle.path_search.proofs.Agree.{route_agree}

@@ -1,5 +1,5 @@
 -- `path_over` meets its contract: where the links lack each of the cut there is no path, and a path that is found can be held.
-use Rattle.std.proofs.Common.{◌≡◌, Option, Some, sym, ap, ◌∙◌, subst}
+use Rattle.std.proofs.Common.{Option, sym, ap, ◌∙◌, subst}
 use Rattle.units.specs.Sets.{has}
 use Rattle.path_search.specs.declared.ends.LinkEnds.{LinkEnds}
 use Rattle.path_search.specs.declared.Path.{Path}

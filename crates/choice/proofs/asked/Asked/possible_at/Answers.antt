@@ -1,8 +1,7 @@
 -- `possible_at` meets its contract: a start is possible if there is a path over the links that carry its span.
-use Rattle.std.proofs.Common.{◌≡◌, ◌∙◌}
-use Rattle.units.specs.Sets.{has}
+use Rattle.std.proofs.Common.{◌∙◌}
 use Rattle.choice.specs.Answer.{wanted, carried}
-use Rattle.choice.proofs.Tries.{same_links, leads_possible}
+use Rattle.choice.proofs.Tries.{leads_possible}
 use Rattle.choice.proofs.asked.Asked.possible_at.Goals as goal
 
 pub returns-clause-possible : goal.returns-clause-possible
