@@ -11,12 +11,33 @@ use timing::least;
 
 const GRAPHS: u64 = 1_024;
 
+/// A question, with the links that can be used as each way has them.
+struct Asked {
+    compiled: InRange,
+    usable: Usable,
+}
+
+impl Asked {
+    fn new(question: Question) -> Asked {
+        let usable = std::array::from_fn(|link| question.set.has(link));
+        Asked { compiled: question.in_range().unwrap(), usable }
+    }
+
+    fn question(&self) -> &Question {
+        self.compiled.question()
+    }
+}
+
 /// A way to answer a question.
-type Way = fn(&InRange) -> Path;
+type Way = fn(&Asked) -> Path;
+
+fn compiled(asked: &Asked) -> Path {
+    find_route(&asked.compiled)
+}
 
 /// The compiled search of an earlier revision.
 #[cfg(before)]
-fn before(asked: &InRange) -> Path {
+fn before(asked: &Asked) -> Path {
     use routes_tests::{LinkEnds, LinkSet};
     extern "C" {
         fn find_route_before(ends: LinkEnds, set: LinkSet, source: u32, destination: u32) -> Path;
@@ -26,31 +47,32 @@ fn before(asked: &InRange) -> Path {
     unsafe { find_route_before(q.ends, q.set, q.source, q.destination) }
 }
 
-fn same_rounds(asked: &InRange) -> Path {
-    on_arrays(asked.question(), rounds)
+fn same_rounds(asked: &Asked) -> Path {
+    on_arrays(asked, rounds)
 }
 
-fn with_queue(asked: &InRange) -> Path {
-    on_arrays(asked.question(), queue)
+fn with_queue(asked: &Asked) -> Path {
+    on_arrays(asked, queue)
 }
 
 /// Plain Rust with no list on the heap.
 #[inline(always)]
-fn on_arrays(q: &Question, distances: impl Fn(Ends, &Usable, u32) -> Distances) -> Path {
+fn on_arrays(asked: &Asked, distances: impl Fn(Ends, &Usable, u32) -> Distances) -> Path {
+    let q = asked.question();
     let ends = Ends { from: &q.ends.from[..q.ends.count], to: &q.ends.to[..q.ends.count] };
-    let distance = distances(ends, &q.set.has, q.destination);
-    match walk(ends, &q.set.has, &distance, q.source, q.destination) {
+    let distance = distances(ends, &asked.usable, q.destination);
+    match walk(ends, &asked.usable, &distance, q.source, q.destination) {
         Some(path) => Path { count: path.count as u32, links: path.links },
         None => as_path(None),
     }
 }
 
 /// Breadth-first from the destination, then the lowest link that leads one nearer.
-fn on_the_heap(asked: &InRange) -> Path {
+fn on_the_heap(asked: &Asked) -> Path {
     let q = asked.question();
     let mut links_in: Vec<Vec<usize>> = vec![Vec::new(); NODES];
     for link in 0..q.ends.count {
-        if q.set.has[link] {
+        if q.set.has(link) {
             links_in[q.ends.to[link] as usize].push(link);
         }
     }
@@ -82,9 +104,9 @@ fn on_the_heap(asked: &InRange) -> Path {
 
 /// Times every way on the questions, and prints the compiled search's time beside each.
 fn run(what: &str, questions: impl Iterator<Item = Question>) {
-    let asked: Vec<InRange> = questions.map(|q| q.in_range().unwrap()).collect();
+    let asked: Vec<Asked> = questions.map(Asked::new).collect();
     let ways: &[(&str, Way)] = &[
-        ("compiled", find_route),
+        ("compiled", compiled),
         #[cfg(before)]
         ("compiled before", before),
         ("same rounds", same_rounds),
@@ -93,7 +115,7 @@ fn run(what: &str, questions: impl Iterator<Item = Question>) {
     ];
     for (name, way) in ways {
         for (seed, asked) in asked.iter().enumerate() {
-            assert_eq!(way(asked), find_route(asked), "{what}, {name}, seed {seed}");
+            assert_eq!(way(asked), compiled(asked), "{what}, {name}, seed {seed}");
         }
     }
     let each = |way: &Way| {

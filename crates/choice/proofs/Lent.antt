@@ -5,19 +5,19 @@ use mathlib.Core.List.{List}
 use mathlib.Core.Bool.{Bool, true}
 use Prim.Native.Nat.{ℕ, ◌+◌, ◌-◌, ◌≤◌, ◌<◌}
 use native.Mathlib.Omega.{arith}
-use lib.Dec.{leb, ltb}
+use lib.Dec.{leb}
 use lib.ListN.{length, get_or}
 use Rattle.units.specs.Lists.{padded}
-use Rattle.units.specs.Search.{found_or, first_from}
-use Rattle.units.proofs.Tests.{at_most, less_not}
+use Rattle.units.specs.Search.{all_from}
+use Rattle.units.proofs.Tests.{at_most}
 use Rattle.units.proofs.Padded.{padded_get}
-use Rattle.units.proofs.Search.{all_from_all, all_allFrom, all_before}
+use Rattle.units.proofs.Search.{all_from_all, all_allFrom}
 use Rattle.timeline.specs.Events.{events}
 use Rattle.timeline.proofs.Steady.{NoneBetween, ChangesAt}
 use Rattle.timeline.proofs.Spans.{span_back, span_on}
 use Rattle.free_table.specs.Figures.{kept}
-use Rattle.free_table.specs.Looking.{first_missing}
-use Rattle.free_table.proofs.SpanCheck.{kept_changes, first_missing_kept}
+use Rattle.free_table.specs.Looking.{enough_span}
+use Rattle.free_table.proofs.SpanCheck.{kept_changes, enough_span_kept}
 use Rattle.choice.specs.Carrying.{suffices, carries}
 
 module _ (figure : ℕ → ℕ → ℕ) (bandwidth duration : ℕ) where
@@ -53,20 +53,11 @@ module _ (c : ℕ) (ts es t : List ℕ) (shown : es ≡ padded (length es) (even
   pub event_at : (i : ℕ) → get_or es i 0 ≡ get_or (events c ts) i 0
   event_at i = ap (λ x. get_or x i 0) shown ∙ padded_get 0 (length es) (events c ts) i
 
--- the first n minutes of a span have the bandwidth if and only if the first that lacks it is behind them
-pub until_carries : (c : ℕ) (ts es t : List ℕ) → es ≡ padded (length es) (events c ts) → (l bandwidth start d n : ℕ) → c ≤ start → 1 ≤ d → n ≤ d
-    → leb (start + n) (found_or (start + d) (first_missing es start (start + d) l bandwidth t)) ≡ carries (kept es t) bandwidth n start l
-until_carries c ts es t shown l bandwidth start d n h some few =
-    subst (λ x. leb (start + n) (found_or (start + d) (first_missing x start (start + d) l bandwidth t)) ≡ carries (kept x t) bandwidth n start l) (sym shown)
-    (ap (λ f. leb (start + n) (found_or (start + d) f)) (first_missing_kept (length es) c ts t l bandwidth start (start + d) h (omega arith))
-    ∙ ap (λ k. leb (start + n) (found_or (start + d) (first_from start k lacks))) whole
-    ∙ sym (all_before (λ k. suffices bandwidth (kept shown_events t l k)) lacks (λ k. less_not (kept shown_events t l k) bandwidth) start n d few))
-  where
-    shown_events : List ℕ
-    shown_events = padded (length es) (events c ts)
-
-    lacks : ℕ → Bool
-    lacks k = ltb (kept shown_events t l k) bandwidth
-
-    whole : start + d - start ≡ d
-    whole = omega arith
+-- a link has enough of the bandwidth throughout the minutes of a span if and only if it carries it
+pub enough_carries : (c : ℕ) (ts es t : List ℕ) → es ≡ padded (length es) (events c ts) → (l bandwidth start n : ℕ) → c ≤ start → 1 ≤ n
+    → enough_span es start (start + n) l bandwidth t ≡ carries (kept es t) bandwidth n start l
+enough_carries c ts es t shown l bandwidth start n h some =
+    let whole : start + n - start ≡ n = omega arith in
+    subst (λ x. enough_span x start (start + n) l bandwidth t ≡ carries (kept x t) bandwidth n start l) (sym shown)
+    (enough_span_kept (length es) c ts t l bandwidth start (start + n) h (omega arith)
+    ∙ ap (λ k. all_from start k (λ j. leb bandwidth (kept (padded (length es) (events c ts)) t l j))) whole)

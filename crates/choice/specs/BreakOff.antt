@@ -1,12 +1,8 @@
 -- Where every path from a minute on breaks off. It knows nothing of bookings.
-use Rattle.std.specs.Prelude.{List, Bool, not, ℕ, suc, ◌+◌, ◌-◌, leb, get_or}
+use Rattle.std.specs.Prelude.{Bool, not, ℕ, suc, ◌+◌, ◌-◌}
 use Rattle.units.specs.Search.{found_or, first_from}
 use Rattle.path_search.specs.Paths.{Graph}
 use Rattle.choice.specs.Choice.{possible}
-
--- whether link l lasts to a minute, by the first at which each link lacks the bandwidth
-abbrev pub lasts_to : List ℕ → ℕ → ℕ → Bool
-lasts_to until end l = leb end (get_or until l 0)
 
 -- `carries n m l`: link l has what is asked for in each of the n minutes from m on
 module _ (g : Graph) (carries : ℕ → ℕ → ℕ → Bool) (from to : ℕ) where

@@ -10,6 +10,7 @@ ghost use Rattle.choice.specs.Answer.{wanted, choice_for, break_off_for, Askable
 
 use choice::{Asked, ChoiceRecord, Search};
 use free_table::FreeTable;
+use path_search::Net;
 use units::Minute;
 
 // The earliest start of low to latest at which there is a path, with that path; refusal 8 where there is none, with the minute at
@@ -33,8 +34,10 @@ pub extern "C" fn choose_start<'a>(
         events,
         figures: free,
     };
+    let net = Net::new(search.ends);
     let asked = Asked {
         search: &search,
+        net: &net,
         table,
     };
     ChoiceRecord::from(asked.choose(low, latest))

@@ -5,10 +5,10 @@ use Rattle.std.specs.Simd.{first_chunks}
 use Rattle.std.specs.List.{position_from, position_or_len}
 use Rattle.std.proofs.lemmas.Iterator.Adapters.{position_from-zero}
 use Rattle.units.specs.Limits.{most_links}
-use Rattle.units.specs.Search.{Found, at, nothing, found_or, first_from}
+use Rattle.units.specs.Search.{Found, at, nothing, first_from}
 use Rattle.units.proofs.Search.{first_from_agree}
 use Rattle.timeline.specs.Events.{row_at}
-use Rattle.free_table.specs.Looking.{span_rows, lacking_row, row_minute, minute_found}
+use Rattle.free_table.specs.Looking.{span_rows, lacking_row}
 
 chunks_from : (size i k : ℕ) (t : List ℕ) → drop i (first_chunks size (i + k) t) ≡ first_chunks size k (drop (i * size) t)
 chunks_from size zero k t = rw (zero-add, zero-mul) refl
@@ -52,7 +52,7 @@ unfolding span_rows
 span_rows_length es start end t = length_chunks most_links (suc (row_at es (end - 1) - row_at es start)) (drop (row_at es start * most_links) t)
 
 -- a row among so many
-chunk_at : (size n i : ℕ) (t : List ℕ) → i < n → get_or (first_chunks size n t) i [] ≡ take size (drop (i * size) t)
+pub chunk_at : (size n i : ℕ) (t : List ℕ) → i < n → get_or (first_chunks size n t) i [] ≡ take size (drop (i * size) t)
 chunk_at size zero i t h = absurd (omega arith)
 chunk_at size (suc n) zero t h = rw zero-mul refl
 chunk_at size (suc n) (suc i) t h = chunk_at size n i (drop size t) (omega arith) ∙ ap (take size) (drop-drop (i * size) size t ∙ ap (λ k. drop k t) (omega arith))
@@ -115,25 +115,3 @@ module _ (es : List ℕ) (start end : ℕ) (t : List ℕ) (l bandwidth : ℕ) (c
       ∙ position_first lacks_in rows 0
       ∙ first_from_agree (λ k. lacks_in (get_or rows (k - 0) [])) (λ k. lacks_in (get_or rows k [])) 0 (length rows) (λ k a b. let same : k - 0 ≡ k = omega arith in ap (λ j. lacks_in (get_or rows j [])) same)
       ∙ lacking_rows
-
--- ---- the rows from one on, as a loop goes back over them
-
-module _ (es : List ℕ) (start end : ℕ) (rows : List (List ℕ)) (l bandwidth : ℕ) where
-  -- the first minute in one of the rows from `row` on in which the link has less than the bandwidth, or the end
-  abbrev pub until_from : ℕ → ℕ
-  until_from row = found_or end (minute_found es start (first_from row (length rows - row) (λ k. ltb (get_or (get_or rows k []) l 0) bandwidth)))
-
-  pub until_past : until_from (length rows) ≡ end
-  unfolding first_from
-  until_past = let none : length rows - length rows ≡ 0 = omega arith in rw none refl
-
-  found_until : (b : Bool) (i : ℕ) (f : Found)
-      → found_or end (minute_found es start (elim b as (λ x. Found) [ true ↦ at i | false ↦ f ])) ≡ cond b (row_minute es start i) (found_or end (minute_found es start f))
-  found_until true i f = refl
-  found_until false i f = refl
-
-  pub until_before : (row : ℕ) → row < length rows → until_from row ≡ cond (ltb (get_or (get_or rows row []) l 0) bandwidth) (row_minute es start row) (until_from (suc row))
-  unfolding first_from
-  until_before row h =
-      let one : length rows - row ≡ suc (length rows - suc row) = omega arith in
-      rw one (found_until (ltb (get_or (get_or rows row []) l 0) bandwidth) row (first_from (suc row) (length rows - suc row) (λ k. ltb (get_or (get_or rows k []) l 0) bandwidth)))

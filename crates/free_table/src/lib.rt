@@ -9,10 +9,12 @@ ghost use Rattle.free_table.specs.Figures.{all_free};
 ghost use Rattle.free_table.specs.Taking.{less_rows, less_span, Sized};
 
 mod interval;
+mod masks;
 mod missing;
 mod view;
 
 pub use interval::Interval;
+pub use masks::{Masks, no_masks, row_mask};
 pub use missing::Missing;
 use timeline::row_at;
 use units::{Bandwidth, LinkNumber, Minute, ROW};

@@ -7,7 +7,8 @@ pub mod InRange
 pub mod Agree
 pub mod Needed
 pub mod Theorems
-mod Rounds
 mod DistanceLaws
 mod Picks
-mod Done
+mod Sets
+mod LayerLaws
+mod Cuts

@@ -105,7 +105,7 @@ module _ (g : Graph) (usable : ℕ → Bool) (destination : ℕ) where
 
   module _ (below : NodesBelow g (suc last_node)) where
     -- a node that needs a link is one of 0 to 31
-    some_needed : (v n : ℕ) → Fewest v (suc n) → v ≤ last_node
+    pub some_needed : (v n : ℕ) → Fewest v (suc n) → v ≤ last_node
     some_needed v n f = let l = reaches_first g usable destination n v f.leads in let b = below.from_below l.0 l.1.known in omega (arith, l.1.begins)
 
     -- no node needs more than 31 links

@@ -1,7 +1,7 @@
 -- The theorems on the answer, with no search in what they say. From a node to another one, over links in range: the answer
 -- is right; it has a link exactly where some chain leads there; 31 links are enough; one answer is right. Beneath it: the
 -- rounds answer the links that each node needs, and their number is one more than the most that any needs.
-use mathlib.Core.Path.{◌≡◌, refl, sym, ap, subst}
+use mathlib.Core.Path.{◌≡◌, refl, sym, ◌∙◌, ap, subst}
 use mathlib.Core.Logic.{◌≢◌, ◌↔◌}
 use mathlib.Core.List.{List, [], ◌∷◌}
 use mathlib.Core.Bool.{Bool, true, false}
@@ -10,15 +10,15 @@ use native.Mathlib.Decide.{dec_le}
 use native.Mathlib.Omega.{arith}
 use lib.ListN.{length, take, replicate}
 use lib.Seq.{take-append_seam}
-use Rattle.std.proofs.Common.{Option, unwrap_or}
+use Rattle.std.proofs.Common.{Option, Some, unwrap_or}
 use Rattle.units.specs.Limits.{last_node, most_hops}
-use Rattle.units.specs.Lists.{Within, padded}
+use Rattle.units.specs.Lists.{All, Within, padded}
 use Rattle.units.proofs.Search.{first_from_nothing, clash, not_true}
 use Rattle.path_search.specs.declared.ends.LinkEnds.{LinkEnds}
 use Rattle.path_search.specs.declared.LinkSet.{LinkSet}
 use Rattle.path_search.specs.declared.Path.{Path}
 use Rattle.path_search.specs.declared.RoundsDone.{RoundsDone}
-use Rattle.path_search.specs.Paths.{Graph, Route, none, reaches, fewest, route_of, route}
+use Rattle.path_search.specs.Paths.{Graph, Route, along, none, reaches, fewest, route_of, route}
 use Rattle.path_search.specs.Answer.{graph, usable, path_of, found_path, answer}
 use Rattle.path_search.specs.Right.{Joins, Chosen, Right, chosen, no_chain}
 use Rattle.path_search.specs.Rounds.{Shows, distance}
@@ -26,7 +26,7 @@ use Rattle.path_search.specs.Needed.{most_needed}
 use Rattle.path_search.specs.RightRounds.{FigureRight, needs, none_leads, RoundsRight}
 use Rattle.path_search.proofs.Chains.{Way, chain_reaches, reaches_iff}
 use Rattle.path_search.proofs.Loops.{NodesBelow}
-use Rattle.path_search.proofs.Routes.{short_way, IsRoute, is_route_only, is_route_distinct, RouteView, found, no_chain as no_way, route_view}
+use Rattle.path_search.proofs.Routes.{route_stays, short_way, IsRoute, is_route_only, is_route_distinct, RouteView, found, no_chain as no_way, route_view}
 use Rattle.path_search.proofs.Paths.{chain_leads, route_path}
 use Rattle.path_search.proofs.InRange.{nodes_below}
 use Rattle.path_search.proofs.Needed.{fewest_needs, most_right}
@@ -142,3 +142,15 @@ distances_right ends set destination done shows number last =
       number = number;
       last = last;
     }
+
+-- while all links of a path that was found can be used there is a path
+pub found_stays : (g : Graph) (some more : ℕ → Bool) (source destination : ℕ) (p : Path) → found_path (route g some destination source) ≡ Some p
+    → All (λ l. more l ≡ true) (take p.count p.links) → (other : List ℕ) × (route g more destination source ≡ along other)
+found_stays g some more source destination p told all = by (route g some destination source) refl
+  where
+    by : (r : Route) → route g some destination source ≡ r → (other : List ℕ) × (route g more destination source ≡ along other)
+    by (along path) e =
+        let same : path_of path ≡ p = cc (ap found_path (sym e) ∙ told) in
+        let links : take p.count p.links ≡ path = ap (λ q. take q.count q.links) (sym same) ∙ take-append_seam path (replicate (most_hops - length path) 0) in
+        route_stays g some more destination source path e (subst (All (λ l. more l ≡ true)) links all)
+    by none e = let z : ◌≡◌ {A = ℕ} 0 1 = cc (ap found_path (sym e) ∙ told) in absurd (omega arith)

@@ -9,7 +9,7 @@ ghost use Rattle.path_search.specs.Rounds.{Shows, distance};
 ghost use Rattle.path_search.specs.Needed.{most_needed};
 ghost use Rattle.path_search.specs.Answer.{graph, usable, answer};
 
-use path_search::{LinkEnds, LinkSet, Network, Path, RoundsDone, no_path};
+use path_search::{LinkEnds, LinkSet, Net, Network, Path, RoundsDone, no_path};
 
 // For each node the fewest links that lead from it to the destination, and the number of rounds.
 #[unsafe(no_mangle)]
@@ -18,9 +18,10 @@ pub extern "C" fn distances(ends: LinkEnds, set: LinkSet, destination: u32) -> R
     ensures number_value { result.number ≡ suc (most_needed (graph ends) (usable set) destination) }
     ensures reached_value { result.reached ≡ false }
 {
+    let net = Net::new(ends);
     let network = Network {
-        ends: &ends,
-        usable: &set,
+        net: &net,
+        usable: set,
     };
     network.distances(destination)
 }
@@ -30,9 +31,10 @@ pub extern "C" fn distances(ends: LinkEnds, set: LinkSet, destination: u32) -> R
 pub extern "C" fn find_route(ends: LinkEnds, set: LinkSet, source: u32, destination: u32) -> Path
     ensures { result ≡ answer (route (graph ends) (usable set) destination source) }
 {
+    let net = Net::new(ends);
     let network = Network {
-        ends: &ends,
-        usable: &set,
+        net: &net,
+        usable: set,
     };
     network.find_route(source, destination).unwrap_or(no_path())
 }

@@ -15,7 +15,7 @@ ghost use Rattle.starts.specs.Asked.{search_of, Asks};
 use choice::{Asked, Granted, Search};
 use lent::LentTables;
 use listing::list_ranges;
-use path_search::LinkEnds;
+use path_search::{LinkEnds, Net};
 use units::{Duration, Head, Link, Refused, Request, column, low_minute, span_of};
 
 // What a request asks of any start on these links.
@@ -49,8 +49,10 @@ pub fn best_start(tables: &LentTables<'_>, request: Request) -> Result<Granted, 
 {
     let low = low_minute(tables.head, request);
     let search = search_of(tables.head, tables.links, request);
+    let net = Net::new(search.ends);
     let asked = Asked {
         search: &search,
+        net: &net,
         table: tables.free_table(),
     };
     asked.choose(low, request.latest)
@@ -66,8 +68,10 @@ pub fn all_starts(tables: &LentTables<'_>, request: Request, list: &mut [u32]) -
 {
     let low = low_minute(tables.head, request);
     let search = search_of(tables.head, tables.links, request);
+    let net = Net::new(search.ends);
     let asked = Asked {
         search: &search,
+        net: &net,
         table: tables.free_table(),
     };
     list_ranges(&asked, low, request.latest, list)

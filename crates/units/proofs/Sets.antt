@@ -1,19 +1,22 @@
 -- Sets of numbers as bits: which numbers a union, a difference, one number alone and the rest without the lowest have.
-use mathlib.Core.Path.{◌≡◌, refl, sym, ◌∙◌, ap}
+use mathlib.Core.Path.{◌≡◌, refl, sym, ◌∙◌, ap, ap₂}
 use mathlib.Core.Logic.{◌≢◌}
-use mathlib.Core.Bool.{Bool, true, false, not, ◌&&◌, ◌||◌}
-use Prim.Native.Nat.{ℕ, zero, suc, ◌-◌, ◌*◌, ◌/◌, ◌%◌, ◌^◌, ◌<◌, min, max}
+use mathlib.Core.Bool.{Bool, true, false, not, ◌&&◌, ◌||◌, and-eq-true_iff}
+use Prim.Native.Nat.{ℕ, zero, suc, ◌-◌, ◌*◌, ◌/◌, ◌%◌, ◌^◌, ◌≤◌, ◌<◌, min, max}
+use native.Mathlib.Nat.{le_refl}
 use native.Mathlib.Decide.{ℕ_discrete, dec_lt}
 use native.Mathlib.Omega.{arith}
-use lib.Dec.{eqb}
-use borrow.Author.Tests.{eqb-true, eq-eqb, ne_eqb}
+use lib.Dec.{eqb, ltb}
+use borrow.Author.Tests.{lt-ltb, le-ltb, ltb-true, eqb-true, eq-eqb, ne_eqb}
 use mir.Val.{bits}
 use Rattle.std.specs.Int.{Width, bit_at, bit_not, trailing_zeros}
 use Rattle.std.specs.Int.Bits.{bit_and, bit_or}
-use Rattle.std.proofs.lemmas.Nat.{one_shl, and_le_r}
+use Rattle.std.proofs.lemmas.Nat.{one_shl}
 use Rattle.std.proofs.lemmas.Nat.Bits.{bit_at-zero, bit_at-suc, bit_at_lowest, bit_at-lt, bit_at_and, bit_at_or, bit_at_not, bit_at-pow_same, bit_at-pow_other, bit_at_above, bit_at-trailing_zeros, same_from_bits}
 use Rattle.units.specs.Sets.{has}
-use Rattle.units.proofs.Search.{clash}
+use Rattle.units.specs.Search.{any_below}
+use Rattle.units.proofs.Search.{clash, not_true, any_below_some, some_anyBelow}
+use Rattle.units.proofs.Tests.{same_test, or_elim, left_or, right_or}
 
 -- a number is in the set, or its bit is 0
 pub has_bit : (set i : ℕ) → has set i ≡ true → bit_at set i ≡ 1
@@ -71,6 +74,13 @@ same_set a b h = same_from_bits a b (λ i. by i (has b i) refl)
     by : (i : ℕ) (t : Bool) → has b i ≡ t → bit_at a i ≡ bit_at b i
     by i true e = has_bit a i (h i ∙ e) ∙ sym (has_bit b i e)
     by i false e = has_no_bit a i (h i ∙ e) ∙ sym (has_no_bit b i e)
+
+-- two sets with nothing in common, and one that lies in the other
+pub none_common : (a b i : ℕ) → bit_and a b ≡ 0 → has a i ≡ true → has b i ≡ false
+none_common a b i e h = not_true (has b i) (λ t. clash (has_and a b i ∙ (and-eq-true_iff (has a i) (has b i)).1 (h, t)) (ap (λ s. has s i) e ∙ has_none i))
+
+pub all_common : (a b i : ℕ) → bit_and a b ≡ b → has b i ≡ true → has a i ≡ true
+all_common a b i e h = ((and-eq-true_iff (has a i) (has b i)).0 (sym (has_and a b i) ∙ ap (λ s. has s i) e ∙ h)).0
 
 -- a number alone, unbounded
 pub has_power : (k i : ℕ) → has (2 ^ k) i ≡ eqb i k
@@ -135,10 +145,6 @@ module _ (set t : ℕ) (lowest : Lowest set t) where
       all true = refl
       all false = refl
 
--- and is a smaller figure
-pub rest_less : (set : ℕ) → 0 < set → bit_and set (set - 1) < set
-rest_less set h = omega (arith, and_le_r set (set - 1))
-
 module _ (w : Width) where
   -- `1 << k`: a number alone
   pub has_one : (k i : ℕ) → k < bits w → has (1 * 2 ^ k % 2 ^ bits w) i ≡ eqb i k
@@ -158,3 +164,88 @@ module _ (w : Width) where
   lowest_is set some fits =
       let z = bit_at-trailing_zeros w set some fits in
       (z.0, record { in_set = bit_has set (trailing_zeros w set) z.1; before = λ i h. no_bit_has_not set i (z.2 i h) })
+
+-- a set has a number exactly where it is not empty
+some_bit : (most set : ℕ) → set ≤ most → 0 < set → (i : ℕ) × (bit_at set i ≡ 1)
+some_bit zero set h some = absurd (omega arith)
+some_bit (suc most) set h some =
+    elim (ℕ_discrete (set % 2) 1) [
+      | yes e ↦ (0, bit_at_lowest set ∙ e)
+      | no d ↦ let r = some_bit most (set / 2) (omega arith) (omega arith) in (suc r.0, bit_at-suc set r.0 ∙ r.1)
+    ]
+
+pub some_has : (set : ℕ) → 0 < set → (i : ℕ) × (has set i ≡ true)
+some_has set some = let r = some_bit set set (le_refl set) some in (r.0, bit_has set r.0 r.1)
+
+pub has_some : (set i : ℕ) → has set i ≡ true → 0 < set
+has_some set i h = elim (ℕ_discrete set 0) [ yes e ↦ clash (ap (λ s. has s i) (sym e) ∙ h) (has_none i) | no d ↦ omega arith ]
+
+-- ---- whether some number of a set passes a test, asked of the lowest and then of the rest
+
+module _ (test : ℕ → Bool) where
+  pub none_left : (n : ℕ) → any_below n (λ i. has 0 i && test i) ≡ false
+  none_left n =
+      not_true (any_below n (λ i. has 0 i && test i))
+      (λ t. let s = any_below_some (λ i. has 0 i && test i) n t in clash ((and-eq-true_iff (has 0 s.0) (test s.0)).0 s.2).0 (has_none s.0))
+
+  pub lowest_left : (n set t : ℕ) → Lowest set t → t < n → any_below n (λ i. has set i && test i) ≡ (test t || any_below n (λ i. has (bit_and set (set - 1)) i && test i))
+  lowest_left n set t lowest h = same_test _ _ there back
+    where
+      rest : ℕ → Bool
+      rest i = has (bit_and set (set - 1)) i && test i
+
+      all : ℕ → Bool
+      all i = has set i && test i
+
+      there : any_below n all ≡ true → (test t || any_below n rest) ≡ true
+      there e =
+          let s = any_below_some all n e in
+          let o = (and-eq-true_iff (has set s.0) (test s.0)).0 s.2 in
+          elim (ℕ_discrete s.0 t) [
+            | yes q ↦ left_or (test t) (any_below n rest) (ap test (sym q) ∙ o.1)
+            | no d ↦ right_or (test t) (any_below n rest)
+                (some_anyBelow rest n s.0 s.1 ((and-eq-true_iff (has (bit_and set (set - 1)) s.0) (test s.0)).1 (has_rest set t lowest s.0 ∙ (and-eq-true_iff (has set s.0) (not (eqb s.0 t))).1 (o.0, ap not (ne_eqb s.0 t d)), o.1)))
+          ]
+
+      back : (test t || any_below n rest) ≡ true → any_below n all ≡ true
+      back e =
+          or_elim (test t) (any_below n rest) e (λ q. some_anyBelow all n t h ((and-eq-true_iff (has set t) (test t)).1 (lowest.in_set, q)))
+          (λ q.
+          let s = any_below_some rest n q in
+          let o = (and-eq-true_iff (has (bit_and set (set - 1)) s.0) (test s.0)).0 s.2 in
+          let w = (and-eq-true_iff (has set s.0) (not (eqb s.0 t))).0 (sym (has_rest set t lowest s.0) ∙ o.0) in
+          some_anyBelow all n s.0 s.1 ((and-eq-true_iff (has set s.0) (test s.0)).1 (w.0, o.1)))
+
+-- ---- a set that is made in turn: it has the numbers below n that pass a test
+
+module _ (test : ℕ → Bool) (set n : ℕ) (below : (k : ℕ) → has set k ≡ (ltb k n && test k)) where
+  one_more : (k : ℕ) → k ≢ n → ltb k n ≡ ltb k (suc n)
+  one_more k d =
+      same_test (ltb k n) (ltb k (suc n)) (λ e. let z = ltb-true k n e in lt-ltb k (suc n) (omega arith)) (λ e. let z = ltb-true k (suc n) e in lt-ltb k n (omega arith))
+
+  -- the next number passes: it is put in
+  pub has_next : (w : Width) → n < bits w → test n ≡ true → (k : ℕ) → has (bit_or set (1 * 2 ^ n % 2 ^ bits w)) k ≡ (ltb k (suc n) && test k)
+  has_next w fits passes k =
+      has_or set (1 * 2 ^ n % 2 ^ bits w) k
+      ∙ ap₂ ◌||◌ (below k) (has_one w n k fits)
+      ∙ elim (ℕ_discrete k n) [
+        | yes e ↦ right_or (ltb k n && test k) (eqb k n) (eq-eqb k n e) ∙ sym ((and-eq-true_iff (ltb k (suc n)) (test k)).1 (lt-ltb k (suc n) (omega arith), ap test e ∙ passes))
+        | no d ↦ ap (λ b. (ltb k n && test k) || b) (ne_eqb k n d) ∙ or_false (ltb k n && test k) ∙ ap (λ b. b && test k) (one_more k d)
+      ]
+    where
+      or_false : (b : Bool) → (b || false) ≡ b
+      or_false true = refl
+      or_false false = refl
+
+  -- it does not: the set stays
+  pub has_same : test n ≡ false → (k : ℕ) → has set k ≡ (ltb k (suc n) && test k)
+  has_same fails k =
+      below k
+      ∙ elim (ℕ_discrete k n) [
+        | yes e ↦ ap₂ ◌&&◌ (le-ltb k n (omega arith)) (ap test e ∙ fails) ∙ sym (ap (λ b. ltb k (suc n) && b) (ap test e ∙ fails) ∙ and_false (ltb k (suc n)))
+        | no d ↦ ap (λ b. b && test k) (one_more k d)
+      ]
+    where
+      and_false : (b : Bool) → (b && false) ≡ false
+      and_false true = refl
+      and_false false = refl

@@ -40,9 +40,9 @@ pub fn question(seed: u64) -> Question {
         ends.to[link] = to as u32;
     }
     let share = if random.once_in(2) { 8 } else { random.below(9) };
-    let mut set = LinkSet { has: [false; LINKS] };
-    for has in set.has.iter_mut() {
-        *has = random.below(8) < share;
+    let mut set = LinkSet::NONE;
+    for link in 0..LINKS {
+        set.put(link, random.below(8) < share);
     }
     let past = random.once_in(64);
     Question {
@@ -78,12 +78,12 @@ pub fn random_question(seed: u64, nodes: usize, count: usize) -> Question {
     let nodes = nodes as u64;
     let other = |random: &mut Random, node: u64| (node + 1 + random.below(nodes - 1)) % nodes;
     let mut ends = LinkEnds { count, from: [0; LINKS], to: [0; LINKS] };
-    let mut set = LinkSet { has: [true; LINKS] };
+    let mut set = LinkSet::ALL;
     for link in 0..count {
         let from = random.below(nodes);
         ends.from[link] = from as u32;
         ends.to[link] = other(&mut random, from) as u32;
-        set.has[link] = !random.once_in(8);
+        set.put(link, !random.once_in(8));
     }
     let source = random.below(nodes);
     let destination = other(&mut random, source);
@@ -99,5 +99,5 @@ pub fn line_question() -> Question {
         (ends.from[link], ends.to[link]) = (node, node + 1);
         (ends.from[link + 1], ends.to[link + 1]) = (node + 1, node);
     }
-    Question { ends, set: LinkSet { has: [true; LINKS] }, source: 0, destination: last }
+    Question { ends, set: LinkSet::ALL, source: 0, destination: last }
 }

@@ -23,7 +23,25 @@ pub struct LinkEnds {
 #[repr(C)]
 #[derive(Clone, Copy)]
 pub struct LinkSet {
-    pub has: [bool; LINKS],
+    pub bits: u64,
+}
+
+impl LinkSet {
+    /// Every link.
+    pub const ALL: LinkSet = LinkSet { bits: u64::MAX };
+
+    /// No link.
+    pub const NONE: LinkSet = LinkSet { bits: 0 };
+
+    /// Whether the link is in the set.
+    pub fn has(self, link: usize) -> bool {
+        self.bits >> link & 1 == 1
+    }
+
+    /// Puts the link into the set, or takes it out.
+    pub fn put(&mut self, link: usize, has: bool) {
+        self.bits = self.bits & !(1 << link) | u64::from(has) << link;
+    }
 }
 
 #[repr(C)]
@@ -64,7 +82,7 @@ pub struct Question {
 impl Question {
     /// The links out of the node that can be used, in rising number.
     pub fn links_out(&self, node: u32) -> impl Iterator<Item = usize> + '_ {
-        (0..self.ends.count).filter(move |&link| self.set.has[link] && self.ends.from[link] == node)
+        (0..self.ends.count).filter(move |&link| self.set.has(link) && self.ends.from[link] == node)
     }
 
     /// The question, where it meets what the compiled search requires: at most 64 links, their nodes 0 to 31.

@@ -9,7 +9,7 @@ fn ask(links: &[(u32, u32)], source: u32, destination: u32) -> Question {
         ends.from[link] = from;
         ends.to[link] = to;
     }
-    Question { ends, set: LinkSet { has: [true; LINKS] }, source, destination }
+    Question { ends, set: LinkSet::ALL, source, destination }
 }
 
 fn find_route(q: &Question) -> Path {
@@ -30,9 +30,9 @@ fn session_of_document_01() {
     let links = [(0, 1), (1, 2), (0, 2)];
     let mut q = ask(&links, 0, 2);
     assert_eq!(find_route(&q), path(&[2]));
-    q.set.has[2] = false;
+    q.set.put(2, false);
     assert_eq!(find_route(&q), path(&[0, 1]));
-    q.set.has[1] = false;
+    q.set.put(1, false);
     assert_eq!(find_route(&q), path(&[]));
 }
 
@@ -59,7 +59,7 @@ fn longest_routes() {
 #[test]
 fn nothing_to_use() {
     let mut q = ask(&ring(5), 0, 3);
-    q.set.has = [false; LINKS];
+    q.set = LinkSet::NONE;
     assert_eq!(find_route(&q), path(&[]));
     q.ends.count = 0;
     assert_eq!(find_route(&q), path(&[]));
@@ -96,7 +96,7 @@ fn rounds_go_on_beyond_the_source() {
 #[test]
 fn one_round_that_reaches_nothing() {
     let mut q = ask(&ring(5), 0, 3);
-    q.set.has = [false; LINKS];
+    q.set = LinkSet::NONE;
     assert_eq!(rounds(&q), 1);
     q.ends.count = 0;
     assert_eq!(rounds(&q), 1);

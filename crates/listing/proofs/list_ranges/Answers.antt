@@ -20,7 +20,7 @@ use Rattle.listing.proofs.list_ranges.Goals.{After-start_granted-next, In-Some, 
 
 -- the first start is that of the choice
 first_is : (c : After-start_granted-next) → c.start_granted-next.result ≡ start_of (choice_of c.args.asked.now c.args.low.0 c.args.latest.0)
-first_is c = c.start_granted-next.ensures ∙ ap start_granted c.first_start.ensures ∙ start_answered (choice_of c.args.asked.now c.args.low.0 c.args.latest.0)
+first_is c = c.start_granted-next.ensures ∙ ap start_granted c.first_start.ensures.first ∙ start_answered (choice_of c.args.asked.now c.args.low.0 c.args.latest.0)
 
 first_or : (c : After-start_granted-next) → minute_or (suc c.args.latest.0) c.start_granted-next.result ≡ start_or (suc c.args.latest.0) (choice_of c.args.asked.now c.args.low.0 c.args.latest.0)
 first_or c = ap (minute_or (suc c.args.latest.0)) (first_is c)
@@ -40,27 +40,31 @@ room : (c : After-run_end-end) → c.loop-next.count < most_ranges
 room c =
     let at = goal.at.After-run_end-end c in
     listed_few c.args.asked.now c.args.low.0 c.args.latest.0 (minute_or (suc c.args.latest.0) c.start_granted-next.result) (first_or at.After-start_granted-next) c.loop-next.list c.loop-next.count c.in-Some.start.0 (listed_to at.In-Some) (looked_at at.In-Some).1
-    c.run_end-end.result.0 c.run_end-end.ensures c.requires.askable.not_past c.requires.events_fit
+    c.run_end-end.result.0 c.run_end-end.ensures.run c.requires.askable.not_past c.requires.events_fit
 
 -- the next start, or the minute after the window
 following : (c : After-next_start-next) → NextStart (possible_of c.args.asked.now) c.run_end-end.result.0 (suc c.args.latest.0) (minute_or (suc c.args.latest.0) c.next_start-next.result)
 following c =
     let a = c.args.asked.now in
     next_start (graph a.search.now.ends) (carried (wanted a.search.now) a.table.events.now a.table.figures.now) a.search.now.source a.search.now.destination c.run_end-end.result.0 c.args.latest.0
-    (minute_or (suc c.args.latest.0) c.next_start-next.result) c.run_end-end.ensures.not_past (ap (minute_or (suc c.args.latest.0)) c.next_start-next.ensures)
+    (minute_or (suc c.args.latest.0) c.next_start-next.result) c.run_end-end.ensures.run.not_past (ap (minute_or (suc c.args.latest.0)) c.next_start-next.ensures.next)
+
+pub first_start-requires-clause-known : goal.first_start-requires-clause-known
+first_start-requires-clause-known c = c.nothing_known-known.ensures c.args.asked.now
 
 pub loop-next-init : goal.loop-next-init
 loop-next-init c =
     let a = c.args.asked.now in
     record {
       listed = listed_first a c.args.low.0 c.args.latest.0 (minute_or (suc c.args.latest.0) c.start_granted-next.result) (first_or (goal.at.loop-next-init c).After-start_granted-next) c.args.list.now c.requires.list_sized;
+      known = c.first_start.ensures.known;
       in_window = λ m e. start_found a c.args.low.0 c.args.latest.0 m (sym (first_is (goal.at.loop-next-init c).After-start_granted-next) ∙ e);
     }
 
 pub run_end-end-requires : goal.run_end-end-requires
 run_end-end-requires c =
     let start = looked_at (goal.at.run_end-end-requires c).In-Some in
-    record { askable = askable_part c.requires.askable c.in-Some.start.0 c.args.latest.0 start.0 (le_refl _); in_window = start.1; possible = start.2 }
+    record { askable = askable_part c.requires.askable c.in-Some.start.0 c.args.latest.0 start.0 (le_refl _); known = c.loop-next.invariant.known; in_window = start.1; possible = start.2 }
 
 pub bounds-list-place : goal.bounds-list-place
 bounds-list-place c = omega (arith, room (goal.at.bounds-list-place c).After-run_end-end, c.loop-next.invariant.listed.sized)
@@ -70,12 +74,12 @@ bounds-list-place-in-Some c = simp length-set (omega (arith, room (goal.at.bound
 
 pub next_start-next-requires-clause-askable : goal.next_start-next-requires-clause-askable
 next_start-next-requires-clause-askable c =
-    askable_part c.requires.askable c.run_end-end.result.0 c.args.latest.0 (omega (arith, looked_at (goal.at.next_start-next-requires-clause-askable c).In-Some, c.run_end-end.ensures.after)) (le_refl _)
+    askable_part c.requires.askable c.run_end-end.result.0 c.args.latest.0 (omega (arith, looked_at (goal.at.next_start-next-requires-clause-askable c).In-Some, c.run_end-end.ensures.run.after)) (le_refl _)
 
 pub loop-next-smaller : goal.loop-next-smaller
 loop-next-smaller c =
     let at = goal.at.loop-next-smaller c in
-    omega (arith, looked_at at.In-Some, ap (minute_or (suc c.args.latest.0)) c.in-Some.is, c.run_end-end.ensures.after, (following at.After-next_start-next).not_before)
+    omega (arith, looked_at at.In-Some, ap (minute_or (suc c.args.latest.0)) c.in-Some.is, c.run_end-end.ensures.run.after, (following at.After-next_start-next).not_before)
 
 pub loop-next-preserved : goal.loop-next-preserved
 loop-next-preserved c =
@@ -83,8 +87,9 @@ loop-next-preserved c =
     let a = c.args.asked.now in
     record {
       listed = listed_next a c.args.low.0 c.args.latest.0 (minute_or (suc c.args.latest.0) c.start_granted-next.result) (first_or at.After-start_granted-next) c.loop-next.list c.loop-next.count c.in-Some.start.0 (listed_to at.In-Some) (looked_at at.In-Some).1
-          c.run_end-end.result.0 c.run_end-end.ensures (minute_or (suc c.args.latest.0) c.next_start-next.result) (following at.After-next_start-next) (room at.After-run_end-end);
-      in_window = λ m e. let found = start_found a c.run_end-end.result.0 c.args.latest.0 m (sym c.next_start-next.ensures ∙ e) in (omega (arith, looked_at at.In-Some, c.run_end-end.ensures.after, found), found.1, found.2);
+          c.run_end-end.result.0 c.run_end-end.ensures.run (minute_or (suc c.args.latest.0) c.next_start-next.result) (following at.After-next_start-next) (room at.After-run_end-end);
+      known = c.next_start-next.ensures.known;
+      in_window = λ m e. let found = start_found a c.run_end-end.result.0 c.args.latest.0 m (sym c.next_start-next.ensures.next ∙ e) in (omega (arith, looked_at at.In-Some, c.run_end-end.ensures.run.after, found), found.1, found.2);
     }
 
 pub returns : goal.returns

@@ -1,12 +1,14 @@
--- distances meets its contract. As long as the rounds go on, the table shows the distances of up to `near` links, and some
--- node needs that many.
-use Prim.Native.Nat.{◌-◌}
-use Rattle.path_search.specs.Rounds.{far}
-use Rattle.path_search.proofs.Done.{Going}
+-- distances meets its contract. The nodes from which fewer than `near` links lead have their figure, the others `far`.
+use mathlib.Core.Path.{◌≡◌}
+use mathlib.Core.Bool.{true, false}
+use Prim.Native.Nat.{ℕ, ◌≤◌}
+use lib.Dec.{ltb}
+use Rattle.units.specs.Limits.{last_node}
+use Rattle.path_search.specs.Rounds.{far, figures, distance}
+use Rattle.path_search.specs.Answer.{graph_of, usable_in}
 use Rattle.path_search.proofs.Network.distances.Given as goal
 
 abbrev pub invariant-loop-near : goal.invariant-loop-near
-invariant-loop-near l = Going l.self l.destination l.table l.near
-
-abbrev pub decreases-loop-near : goal.decreases-loop-near
-decreases-loop-near l = far - l.near
+invariant-loop-near l =
+    (v : ℕ) → v ≤ last_node
+    → let d = distance (graph_of l.self) (usable_in l.self) l.destination last_node v in figures l.table v ≡ elim (ltb d l.near) [ true ↦ d | false ↦ far ]

@@ -1,32 +1,32 @@
--- nearer_link meets its contract: the first link that passes the test is found, or none passes.
-use mathlib.Core.Path.{◌≡◌, sym, ◌∙◌, ap}
-use mathlib.Core.Bool.{Bool, true, false}
-use Prim.Native.Nat.{ℕ, ◌≤◌, ◌<◌, zero-le}
+-- nearer_link meets its contract: the lowest of the links out of the node that lead to the layer.
 use native.Mathlib.Omega.{arith}
-use lib.Dec.{eqb}
-use Rattle.std.proofs.Common.{rules, Option, Some, None, MatchOption, option_map}
-use Rattle.std.proofs.lemmas.Iterator.{first_from_Range}
-use Rattle.units.specs.declared.LinkNumber.{LinkNumber}
-use Rattle.units.specs.Search.{first_from}
-use Rattle.units.proofs.Search.{first_from_first, first_from_nothing}
-use Rattle.path_search.specs.Paths.{onward}
-use Rattle.path_search.specs.Rounds.{figures}
-use Rattle.path_search.specs.Answer.{graph_of, usable_in, found_link}
+use borrow.Author.Rules.{rules}
+use lib.ListN.{get_or}
+use Rattle.std.specs.Int.{w64, trailing_zeros}
+use Rattle.std.specs.Int.Bits.{bit_and}
+use Rattle.units.proofs.Sets.{lowest_is}
+use Rattle.path_search.specs.Answer.{graph_of, usable_in}
+use Rattle.path_search.specs.Layers.{away}
+use Rattle.path_search.proofs.Picks.{Nearer, some_nearer}
+use Rattle.path_search.proofs.Sets.{lowest_onward, onward_some}
 use Rattle.path_search.proofs.Network.nearer_link.Goals as goal
 
-abbrev as_link : ℕ → LinkNumber
-as_link l = record { 0 = l }
-
-is_first : (test : ℕ → Bool) (n : ℕ) (o : Option ℕ)
-    → MatchOption o ((k : ℕ) → 0 ≤ k → k < n → test k ≡ false) (λ l. (0 ≤ l) × (l < n) × (test l ≡ true) × ((k : ℕ) → 0 ≤ k → k < l → test k ≡ false))
-    → option_map as_link o ≡ found_link (first_from 0 n test)
-is_first test n None h = sym (ap found_link (first_from_nothing test 0 n (λ k low high. h k low (omega arith))))
-is_first test n (Some l) h = sym (ap found_link (first_from_first test 0 n l (record { low = zero-le; high = omega (arith, h.1); passes = h.2; before = h.3 })))
+pub bounds-self-node : goal.bounds-self-node
+bounds-self-node c =
+    let g = graph_of c.args.self in
+    let f : Nearer g (usable_in c.args.self) (away g (usable_in c.args.self) c.args.layers.now) c.args.node c.args.near = some_nearer g (usable_in c.args.self) _ c.args.node c.args.near c.requires.some in
+    omega (arith, c.args.self.net.now.ends.in_range.from_node f.link f.known, f.begins)
 
 pub returns : goal.returns
 returns c =
-    let a = c.args in
-    let test : ℕ → Bool = onward (graph_of a.self) (usable_in a.self) (λ w. eqb (figures a.table.now w) a.near) a.node in
-    let mapped : c.map.result ≡ option_map as_link c.find.result = search rules in
-    mapped
-    ∙ is_first test a.self.ends.now.count c.find.result (first_from_Range _ _ _ _ (λ k. test k ≡ true) (λ k. test k ≡ false) c.find.ensures.ran (λ x q h. search rules) (λ x q h. search rules))
+    let net = c.args.self.net.now in
+    let g = graph_of c.args.self in
+    let u = usable_in c.args.self in
+    let a = away g u c.args.layers.now in
+    let f : Nearer g u a c.args.node c.args.near = some_nearer g u a c.args.node c.args.near c.requires.some in
+    let out = get_or net.out c.args.node 0 in
+    let links = get_or c.args.layers.now.links c.args.near 0 in
+    let leaving = net.leaving c.args.node (omega (arith, net.ends.in_range.from_node f.link f.known, f.begins)) in
+    let leading = c.requires.layers.links c.args.near c.requires.near in
+    let low = lowest_is w64 (bit_and out links) (onward_some g u a c.args.near c.args.node out links leaving leading f.link f.found) (search rules) in
+    lowest_onward g u a c.args.near c.args.node out links leaving leading (trailing_zeros w64 (bit_and out links)) low.1

@@ -1,49 +1,37 @@
--- break_off meets its contract: some path lasts throughout low to each minute before the loop's.
-use mathlib.Core.Path.{◌≡◌, sym, ◌∙◌, subst}
-use Prim.Native.Nat.{◌+◌, ◌<◌}
-use native.Mathlib.Omega.{arith}
-use borrow.Author.Rules.{rules}
-use lib.ListN.{length}
-use Rattle.units.specs.Limits.{most_links}
-use Rattle.units.proofs.Minutes.{earlier, not_earlier}
-use Rattle.free_table.specs.Looking.{first_missing, Until}
-use Rattle.choice.proofs.Until.{broken_first, broken_next, broken_here, path_lasts}
+-- break_off meets its contract: some path lasts throughout the rows before the loop's.
+use Rattle.std.proofs.Common.{◌≡◌, ◌+◌, length, sym, ap, ◌∙◌, subst, arith}
+use Rattle.free_table.specs.Looking.{span_rows}
+use Rattle.choice.proofs.LastingRows.{Looked, looked_first, looked_next, looked_broken, looked_all}
 use Rattle.choice.proofs.asked.Asked.break_off.Goals as goal
-use Rattle.choice.proofs.asked.Asked.break_off.Goals.{After-missing_minutes-until}
+use Rattle.choice.proofs.asked.Asked.break_off.Goals.{After-rows-first}
 
--- the minutes are those of low's span
-is_until : (c : After-missing_minutes-until) → Until c.missing_minutes-until.result (c.args.low.0 + c.args.self.now.search.now.span.0)
-    (λ l. first_missing c.args.self.now.table.events.now c.args.low.0 (c.args.low.0 + c.args.self.now.search.now.span.0) l c.args.self.now.search.now.bandwidth.0 c.args.self.now.table.figures.now)
-is_until c =
-    let a = c.args.self.now in
-    subst (λ end. Until c.missing_minutes-until.result end (λ l. first_missing a.table.events.now c.args.low.0 end l a.search.now.bandwidth.0 a.table.figures.now)) c.end_minute-end.ensures c.missing_minutes-until.ensures
+-- the rows are those of low's span
+rows_are : (c : After-rows-first) → c.rows-first.result.1.now ≡ span_rows c.args.self.now.table.events.now c.args.low.0 (c.args.low.0 + c.args.self.now.search.now.span.0) c.args.self.now.table.figures.now
+rows_are c = c.rows-first.ensures.rows ∙ ap (λ end. span_rows c.args.self.now.table.events.now c.args.low.0 end c.args.self.now.table.figures.now) c.end_minute-end.ensures
 
-long : (c : After-missing_minutes-until) → length c.missing_minutes-until.result ≡ most_links
-long c = search rules
+pub loop-row-init : goal.loop-row-init
+loop-row-init c = record { looked = looked_first c.args.self.now c.args.low.0 c.rows-first.result.1.now; known = c.requires.known }
 
-pub loop-until-init : goal.loop-until-init
-loop-until-init c = broken_first c.args.self.now c.args.low.0
+pub leads_over-requires : goal.leads_over-requires
+leads_over-requires c = c.loop-row.invariant.known
 
-pub loop-until-preserved : goal.loop-until-preserved
-loop-until-preserved c =
-    let a = c.args.self.now in
-    let low = c.args.low.0 in
-    let u = (goal.at.loop-until-preserved c).After-missing_minutes-until in
-    let minute = c.loop-until.minute.0 in
-    let next = c.next_lacking-minute.ensures in
-    let inside : minute < low + a.search.now.span.0 = omega (arith, earlier {a = minute} {b = c.end_minute-end.result.0} c.lt.ensures c.loop-until-test.true, c.end_minute-end.ensures) in
-    let lasts = sym (path_lasts a low c.requires c.missing_minutes-until.result (long u) (is_until u) minute c.loop-until.invariant.from_low inside c.path_until.result c.path_until.ensures) ∙ sym c.is_some.ensures ∙ c.if-is_some.true in
-    broken_next a low c.requires c.missing_minutes-until.result (long u) (is_until u) minute c.next_lacking-minute.result.0 next.later next.least c.loop-until.invariant (omega (arith, next.in_time, c.end_minute-end.ensures)) lasts
+pub returns-then-not-leads_over : goal.returns-then-not-leads_over
+returns-then-not-leads_over c =
+    c.row_minute.ensures
+    ∙ looked_broken c.args.self.now c.args.low.0 c.requires.askable c.rows-first.result.1.now (rows_are (goal.at.returns-then-not-leads_over c).After-rows-first) c.loop-row.links.bits c.loop-row.row c.row_mask.result c.loop-row-test.true c.loop-row.invariant.looked c.row_mask.ensures
+    (sym c.leads_over.ensures.leads ∙ c.if-not-leads_over.true)
 
-pub returns-else-is_some : goal.returns-else-is_some
-returns-else-is_some c =
-    let a = c.args.self.now in
-    let low = c.args.low.0 in
-    let u = (goal.at.returns-else-is_some c).After-missing_minutes-until in
-    broken_here a low c.loop-until.minute.0 c.loop-until.invariant
-    (λ inside. sym (path_lasts a low c.requires c.missing_minutes-until.result (long u) (is_until u) c.loop-until.minute.0 c.loop-until.invariant.from_low inside c.path_until.result c.path_until.ensures) ∙ sym c.is_some.ensures ∙ c.if-is_some.false)
+pub loop-row-preserved : goal.loop-row-preserved
+loop-row-preserved c =
+    record {
+      looked = looked_next c.args.self.now c.args.low.0 c.requires.askable c.rows-first.result.1.now (rows_are (goal.at.loop-row-preserved c).After-rows-first) c.loop-row.links.bits c.loop-row.row c.row_mask.result c.loop-row-test.true c.loop-row.invariant.looked c.row_mask.ensures
+          (sym c.leads_over.ensures.leads ∙ c.if-not-leads_over.false);
+      known = c.leads_over.ensures.known;
+    }
 
-pub returns-after-loop-until : goal.returns-after-loop-until
-returns-after-loop-until c =
-    broken_here c.args.self.now c.args.low.0 c.loop-until.minute.0 c.loop-until.invariant
-    (λ inside. absurd (omega (arith, inside, not_earlier {a = c.loop-until.minute.0} {b = c.end_minute-end.result.0} c.lt.ensures c.loop-until-test.false, c.end_minute-end.ensures)))
+pub returns : goal.returns
+returns c =
+    let rows = c.rows-first.result.1.now in
+    let all : c.loop-row.row ≡ length rows = omega arith in
+    c.end_minute-end.ensures
+    ∙ looked_all c.args.self.now c.args.low.0 c.requires.askable rows (rows_are (goal.at.returns c).After-rows-first) c.loop-row.links.bits (subst (Looked c.args.self.now c.args.low.0 rows c.loop-row.links.bits) all c.loop-row.invariant.looked)

@@ -1,10 +1,10 @@
--- break_off meets its contract: some path lasts throughout low to each minute before the loop's.
-use Prim.Native.Nat.{◌-◌}
-use Rattle.choice.proofs.Until.{Broken}
+-- break_off meets its contract: some path lasts throughout the rows before the loop's.
+use Rattle.choice.specs.Known.{KnownOf}
+use Rattle.choice.proofs.LastingRows.{Looked}
 use Rattle.choice.proofs.asked.Asked.break_off.Given as goal
 
-abbrev pub invariant-loop-until : goal.invariant-loop-until
-invariant-loop-until l = Broken l.self l.fn.low.0 l.minute.0
-
-abbrev pub decreases-loop-until : goal.decreases-loop-until
-decreases-loop-until l = l.end.0 - l.minute.0
+abbrev pub invariant-loop-row : goal.invariant-loop-row
+invariant-loop-row l = record {
+  looked : Looked l.self l.low.0 l.rows l.links.bits l.row;
+  known : KnownOf l.self l.known;
+}
