@@ -7,12 +7,12 @@ use desk_tests::{BOOKINGS, EVENTS, LINKS, LIST_FIGURES, NODES, PATH_LINKS, PLACE
 use desk_tests::{MAX_BANDWIDTH, MAX_CAPACITY, MAX_DURATION, MAX_GUARD, MAX_MINUTE, MAX_NUMBER, MAX_SHOWN};
 
 // The fields of a place of the book; the path follows them.
-const NUMBER: usize = 0;
-const START: usize = 1;
-const DURATION: usize = 2;
-const BANDWIDTH: usize = 3;
-const COUNT: usize = 4;
-const PATH: usize = 5;
+pub(crate) const NUMBER: usize = 0;
+pub(crate) const START: usize = 1;
+pub(crate) const DURATION: usize = 2;
+pub(crate) const BANDWIDTH: usize = 3;
+pub(crate) const COUNT: usize = 4;
+pub(crate) const PATH: usize = 5;
 
 /// The lent head and tables of a desk.
 pub struct Tables<'a> {
@@ -51,29 +51,9 @@ pub fn set_up(links: &[Link], tables: &mut Tables, guard: u32) -> Result<(), u32
 /// Refuses 1, 3, 4, 5, 6, 7, 8.
 pub fn book(links: &[Link], tables: &mut Tables, number: u32, request: &Request) -> Result<Start, Refused> {
     let events = check_tables(links, tables)?;
-    if !valid_number(number) {
-        return Err(4.into());
-    }
-    check_request(tables.head.clock, request)?;
-    let Err(place) = find(tables, number) else { return Err(6.into()) };
-    if tables.head.bookings as usize == BOOKINGS {
-        return Err(7.into());
-    }
+    let place = check_booking(tables, number, request)?;
     let start = choose(links, tables, events, request)?;
-    let (first, events) = insert_event(tables, events, start.minute);
-    let (end, _) = insert_event(tables, events, start.minute + request.duration + tables.head.guard);
-    for row in tables.free[first * ROW..end * ROW].chunks_exact_mut(ROW) {
-        for &link in &start.path[..start.count as usize] {
-            row[link as usize] -= request.bandwidth;
-        }
-    }
-    let used = tables.head.bookings as usize * PLACE;
-    tables.book.copy_within(place * PLACE..used, (place + 1) * PLACE);
-    let figures = &mut tables.book[place * PLACE..][..PLACE];
-    figures[..PATH].copy_from_slice(&[number, start.minute, request.duration, request.bandwidth, start.count]);
-    figures[PATH..].copy_from_slice(&start.path);
-    add_work(figures, tables.totals);
-    tables.head.bookings += 1;
+    enter(tables, events, place, number, request, &start);
     Ok(start)
 }
 
@@ -92,14 +72,8 @@ pub fn list(links: &[Link], tables: &Tables, request: &Request, list: &mut [u32]
 /// Refuses 1, 3, 4, 9.
 pub fn cancel(links: &[Link], tables: &mut Tables, number: u32) -> Result<(), u32> {
     check_tables(links, tables)?;
-    if !valid_number(number) {
-        return Err(4);
-    }
-    let place = find(tables, number).map_err(|_| 9u32)?;
-    let used = tables.head.bookings as usize * PLACE;
-    tables.book.copy_within((place + 1) * PLACE..used, place * PLACE);
-    tables.book[used - PLACE..used].fill(0);
-    tables.head.bookings -= 1;
+    let place = check_cancelling(tables, number)?;
+    take_out(tables, place);
     write_figures(links, tables);
     Ok(())
 }
@@ -107,23 +81,8 @@ pub fn cancel(links: &[Link], tables: &mut Tables, number: u32) -> Result<(), u3
 /// Refuses 1, 3, 4, 10.
 pub fn move_clock(links: &[Link], tables: &mut Tables, minute: u32) -> Result<(), u32> {
     check_tables(links, tables)?;
-    if minute > MAX_MINUTE {
-        return Err(4);
-    }
-    if minute < tables.head.clock {
-        return Err(10);
-    }
-    let used = tables.head.bookings as usize;
-    let mut kept = 0;
-    for place in 0..used {
-        let figures = place * PLACE..(place + 1) * PLACE;
-        if guarded_end(&tables.book[figures.clone()], tables.head.guard) > minute {
-            tables.book.copy_within(figures, kept * PLACE);
-            kept += 1;
-        }
-    }
-    tables.book[kept * PLACE..used * PLACE].fill(0);
-    tables.head.bookings = kept as u32;
+    check_minute(tables.head.clock, minute)?;
+    drop_ended(tables, minute);
     tables.head.clock = minute;
     write_figures(links, tables);
     Ok(())
@@ -132,23 +91,16 @@ pub fn move_clock(links: &[Link], tables: &mut Tables, minute: u32) -> Result<()
 /// Refuses 1, 3, 4.
 pub fn show(links: &[Link], tables: &Tables, link: u32, minute: u32) -> Result<u32, u32> {
     let events = check_tables(links, tables)?;
-    if link as usize >= links.len() || minute < tables.head.clock || minute > MAX_SHOWN {
-        return Err(4);
-    }
-    let row = tables.events[..events].partition_point(|&event| event <= minute) - 1;
-    Ok(tables.free[row * ROW + link as usize])
+    shown(links, tables, events, link, minute)
 }
 
 /// Refuses 1, 3, 4.
 pub fn sold_work(links: &[Link], tables: &Tables, link: u32) -> Result<u64, u32> {
     check_tables(links, tables)?;
-    if link as usize >= links.len() {
-        return Err(4);
-    }
-    Ok(tables.totals[link as usize])
+    sold(links, tables, link)
 }
 
-fn check_sizes(links: &[Link], tables: &Tables) -> Result<(), u32> {
+pub(crate) fn check_sizes(links: &[Link], tables: &Tables) -> Result<(), u32> {
     let good = tables.events.len() == EVENTS
         && tables.free.len() == EVENTS * ROW
         && tables.book.len() == BOOKINGS * PLACE
@@ -181,12 +133,59 @@ pub fn check_listing(links: &[Link], tables: &Tables, request: &Request, list: &
     Ok(events)
 }
 
+/// Refuses 4, 5, 6, 7; answers the place where the booking would go.
+pub(crate) fn check_booking(tables: &Tables, number: u32, request: &Request) -> Result<usize, u32> {
+    if !valid_number(number) {
+        return Err(4);
+    }
+    check_request(tables.head.clock, request)?;
+    let Err(place) = find(tables, number) else { return Err(6) };
+    if tables.head.bookings as usize == BOOKINGS {
+        return Err(7);
+    }
+    Ok(place)
+}
+
+/// Refuses 4, 9; answers the place of the booking.
+pub(crate) fn check_cancelling(tables: &Tables, number: u32) -> Result<usize, u32> {
+    if !valid_number(number) {
+        return Err(4);
+    }
+    find(tables, number).map_err(|_| 9)
+}
+
+/// Refuses 4, 10.
+pub(crate) fn check_minute(clock: u32, minute: u32) -> Result<(), u32> {
+    if minute > MAX_MINUTE {
+        return Err(4);
+    }
+    if minute < clock {
+        return Err(10);
+    }
+    Ok(())
+}
+
+/// The free figure of a link in a minute. Refuses 4.
+pub(crate) fn shown(links: &[Link], tables: &Tables, events: usize, link: u32, minute: u32) -> Result<u32, u32> {
+    if link as usize >= links.len() || minute < tables.head.clock || minute > MAX_SHOWN {
+        return Err(4);
+    }
+    let row = row_at(&tables.events[..events], minute);
+    Ok(tables.free[row * ROW + link as usize])
+}
+
+/// The total of a link. Refuses 4.
+pub(crate) fn sold(links: &[Link], tables: &Tables, link: u32) -> Result<u64, u32> {
+    if link as usize >= links.len() {
+        return Err(4);
+    }
+    Ok(tables.totals[link as usize])
+}
+
 /// The number of events, if the tables are sound.
 fn sound(links: &[Link], tables: &Tables) -> Option<usize> {
-    let &Head { clock, links: count, bookings, guard } = &*tables.head;
-    let in_range = clock <= MAX_MINUTE && guard <= MAX_GUARD;
-    let counts_good = count as usize == links.len() && bookings as usize <= BOOKINGS;
-    if !in_range || !counts_good || !links.iter().all(valid_link) {
+    let &Head { clock, bookings, guard, .. } = &*tables.head;
+    if !valid_head(links, tables.head) || !links.iter().all(valid_link) {
         return None;
     }
     let (used, unused) = tables.book.split_at(bookings as usize * PLACE);
@@ -208,11 +207,17 @@ fn sound(links: &[Link], tables: &Tables) -> Option<usize> {
     (same && all_zero(&tables.free[figures..]) && tables.totals == make_totals(used)).then_some(rows)
 }
 
-fn all_zero(figures: &[u32]) -> bool {
+/// Whether the figures of the head are in range, and the links are as many as it says.
+pub(crate) fn valid_head(links: &[Link], head: &Head) -> bool {
+    let in_range = head.clock <= MAX_MINUTE && head.guard <= MAX_GUARD;
+    in_range && head.links as usize == links.len() && head.bookings as usize <= BOOKINGS
+}
+
+pub(crate) fn all_zero(figures: &[u32]) -> bool {
     figures.iter().fold(0, |any, figure| any | figure) == 0
 }
 
-fn valid_link(link: &Link) -> bool {
+pub(crate) fn valid_link(link: &Link) -> bool {
     link.from < NODES as u32
         && link.to < NODES as u32
         && link.from != link.to
@@ -224,7 +229,7 @@ fn valid_number(number: u32) -> bool {
 }
 
 /// Whether a used place has its figures in range, stands at the clock and has a path with zeros behind it.
-fn valid_booking(links: &[Link], clock: u32, guard: u32, place: &[u32]) -> bool {
+pub(crate) fn valid_booking(links: &[Link], clock: u32, guard: u32, place: &[u32]) -> bool {
     let count = place[COUNT] as usize;
     let in_range = valid_number(place[NUMBER])
         && place[START] <= MAX_MINUTE
@@ -249,7 +254,7 @@ fn valid_booking(links: &[Link], clock: u32, guard: u32, place: &[u32]) -> bool 
 }
 
 /// The minute from which on the booking of a place holds nothing and no longer stands.
-fn guarded_end(place: &[u32], guard: u32) -> u32 {
+pub(crate) fn guarded_end(place: &[u32], guard: u32) -> u32 {
     place[START] + place[DURATION] + guard
 }
 
@@ -284,7 +289,7 @@ fn make_free(links: &[Link], guard: u32, used: &[u32], events: &[u32], free: &mu
     free[..events.len() * ROW].chunks_exact_mut(ROW).for_each(|row| row.copy_from_slice(&full));
     let mut oversold = false;
     for place in used.chunks_exact(PLACE) {
-        let (bandwidth, path) = (place[BANDWIDTH], &place[PATH..][..place[COUNT] as usize]);
+        let (bandwidth, path) = (place[BANDWIDTH], path(place));
         let first = events.partition_point(|&event| event < place[START]);
         let end = events.partition_point(|&event| event < guarded_end(place, guard));
         for row in free[first * ROW..end * ROW].chunks_exact_mut(ROW) {
@@ -306,9 +311,18 @@ fn make_totals(used: &[u32]) -> [u64; TOTALS] {
 }
 
 /// Adds the work of the booking of a place to the totals of its links.
-fn add_work(place: &[u32], totals: &mut [u64]) {
-    let work = u64::from(place[BANDWIDTH]) * u64::from(place[DURATION]);
-    place[PATH..][..place[COUNT] as usize].iter().for_each(|&link| totals[link as usize] += work);
+pub(crate) fn add_work(place: &[u32], totals: &mut [u64]) {
+    path(place).iter().for_each(|&link| totals[link as usize] += work(place));
+}
+
+/// The work of the booking of a place.
+pub(crate) fn work(place: &[u32]) -> u64 {
+    u64::from(place[BANDWIDTH]) * u64::from(place[DURATION])
+}
+
+/// The links of the booking of a place.
+pub(crate) fn path(place: &[u32]) -> &[u32] {
+    &place[PATH..][..place[COUNT] as usize]
 }
 
 /// Makes events, free figures and totals anew from head and book, which are sound.
@@ -324,7 +338,7 @@ fn write_figures(links: &[Link], tables: &mut Tables) {
 }
 
 /// Refuses 4, 5.
-fn check_request(clock: u32, request: &Request) -> Result<(), u32> {
+pub(crate) fn check_request(clock: u32, request: &Request) -> Result<(), u32> {
     let in_range = request.from < NODES as u32
         && request.to < NODES as u32
         && request.from != request.to
@@ -352,6 +366,62 @@ fn find(tables: &Tables, number: u32) -> Result<usize, usize> {
     }
 }
 
+/// Enters a booking: the events of its start and end, its bandwidth taken in between, its place and its work. Answers the number
+/// of events.
+pub(crate) fn enter(
+    tables: &mut Tables,
+    events: usize,
+    place: usize,
+    number: u32,
+    request: &Request,
+    start: &Start,
+) -> usize {
+    let &Request { bandwidth, duration, .. } = request;
+    let (first, events) = insert_event(tables, events, start.minute);
+    let (end, events) = insert_event(tables, events, start.minute + duration + tables.head.guard);
+    for row in tables.free[first * ROW..end * ROW].chunks_exact_mut(ROW) {
+        for &link in &start.path[..start.count as usize] {
+            row[link as usize] -= bandwidth;
+        }
+    }
+    let used = tables.head.bookings as usize * PLACE;
+    tables.book.copy_within(place * PLACE..used, (place + 1) * PLACE);
+    let figures = &mut tables.book[place * PLACE..][..PLACE];
+    figures[..PATH].copy_from_slice(&[number, start.minute, duration, bandwidth, start.count]);
+    figures[PATH..].copy_from_slice(&start.path);
+    add_work(figures, tables.totals);
+    tables.head.bookings += 1;
+    events
+}
+
+/// Takes a place out of the book.
+pub(crate) fn take_out(tables: &mut Tables, place: usize) {
+    let used = tables.head.bookings as usize * PLACE;
+    tables.book.copy_within((place + 1) * PLACE..used, place * PLACE);
+    tables.book[used - PLACE..used].fill(0);
+    tables.head.bookings -= 1;
+}
+
+/// Takes the places out of the book whose bookings no longer stand at a minute.
+pub(crate) fn drop_ended(tables: &mut Tables, minute: u32) {
+    let used = tables.head.bookings as usize;
+    let mut kept = 0;
+    for place in 0..used {
+        let figures = place * PLACE..(place + 1) * PLACE;
+        if guarded_end(&tables.book[figures.clone()], tables.head.guard) > minute {
+            tables.book.copy_within(figures, kept * PLACE);
+            kept += 1;
+        }
+    }
+    tables.book[kept * PLACE..used * PLACE].fill(0);
+    tables.head.bookings = kept as u32;
+}
+
+/// The row that holds in a minute, from the clock on.
+pub(crate) fn row_at(events: &[u32], minute: u32) -> usize {
+    events.partition_point(|&event| event <= minute) - 1
+}
+
 /// Adds an event with a copy of the row before it, if it isn't there; answers its row and the number of events.
 fn insert_event(tables: &mut Tables, events: usize, minute: u32) -> (usize, usize) {
     let row = tables.events[..events].partition_point(|&event| event < minute);
@@ -369,7 +439,7 @@ fn insert_event(tables: &mut Tables, events: usize, minute: u32) -> (usize, usiz
 fn choose(links: &[Link], tables: &Tables, events: usize, request: &Request) -> Result<Start, Refused> {
     let events = &tables.events[..events];
     let low = request.earliest.max(tables.head.clock);
-    let first = events.partition_point(|&event| event <= low) - 1;
+    let first = row_at(events, low);
     let enough = enough(links, tables, first, events.len(), request.bandwidth);
     let mut without_path = 0;
     for row in first..events.len() {
@@ -422,11 +492,11 @@ fn list_ranges(links: &[Link], tables: &Tables, events: usize, request: &Request
     let &Request { from, to, bandwidth, latest, .. } = request;
     let span = request.duration + tables.head.guard;
     let low = request.earliest.max(tables.head.clock);
-    let first = events.partition_point(|&event| event <= low) - 1;
+    let first = row_at(events, low);
     let enough = enough(links, tables, first, events.len(), bandwidth);
     let mut searched = (0, false);
     let mut possible = |minute: u32| {
-        let row = events.partition_point(|&event| event <= minute) - 1;
+        let row = row_at(events, minute);
         let later = events[row + 1..].iter().take_while(|&&event| event < minute + span).count();
         let usable = enough[row..=row + later].iter().fold(u64::MAX, |usable, set| usable & set);
         if usable != searched.0 {
@@ -498,7 +568,7 @@ fn rounds(links: &[Link], usable: u64, from: u32, to: u32) -> Option<([u32; NODE
 }
 
 /// The numbers of a set of links, rising.
-fn members(mut set: u64) -> impl Iterator<Item = usize> {
+pub(crate) fn members(mut set: u64) -> impl Iterator<Item = usize> {
     std::iter::from_fn(move || {
         let number = set.trailing_zeros() as usize;
         set &= set.wrapping_sub(1);
