@@ -312,7 +312,8 @@ fn make_totals(used: &[u32]) -> [u64; TOTALS] {
 
 /// Adds the work of the booking of a place to the totals of its links.
 pub(crate) fn add_work(place: &[u32], totals: &mut [u64]) {
-    path(place).iter().for_each(|&link| totals[link as usize] += work(place));
+    let work = work(place);
+    path(place).iter().for_each(|&link| totals[link as usize] += work);
 }
 
 /// The work of the booking of a place.

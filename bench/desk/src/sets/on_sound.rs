@@ -76,7 +76,8 @@ pub fn move_clock(tables: &mut Tables, rows: &mut usize, minute: u32) -> Result<
 
 /// Takes the work of the booking of a place from the totals of its links.
 fn subtract_work(place: &[u32], totals: &mut [u64]) {
-    path(place).iter().for_each(|&link| totals[link as usize] -= work(place));
+    let work = work(place);
+    path(place).iter().for_each(|&link| totals[link as usize] -= work);
 }
 
 /// Whether the event of a row is the clock, or a booking starts or ends there.
