@@ -54,7 +54,9 @@ pub fn growth() -> Vec<Work> {
         let request = after_all(&desk);
         let kinds = ["show", "offer at low", "book"];
         let grown = works(&desk, request, request, 500).into_iter().filter(|work| kinds.contains(&&*work.what));
-        all.extend(grown.map(|work| Work { what: format!("{}: links {links}, bookings {bookings}", work.what), ..work }));
+        all.extend(
+            grown.map(|work| Work { what: format!("{}: links {links}, bookings {bookings}", work.what), ..work }),
+        );
     }
     all
 }

@@ -2,8 +2,8 @@
 //! of bits, changes made in place. What has no other algorithm it shares with `fast`; set-up is the same.
 
 mod net;
-mod one_pass;
 pub mod on_sound;
+mod one_pass;
 mod trial;
 
 use desk_tests::{Link, Refused, Request, LIST_FIGURES};

@@ -53,7 +53,11 @@ fn histories() {
             let (call, answer) = history.step();
             let expected = tables::of(&history.desk);
             for ((which, calls), tables) in DESKS.iter().zip(&mut held) {
-                assert_eq!(calls.answer(&links, tables, &call), answer, "{which}, seed {seed:#x}, step {step}: {call:?}");
+                assert_eq!(
+                    calls.answer(&links, tables, &call),
+                    answer,
+                    "{which}, seed {seed:#x}, step {step}: {call:?}"
+                );
                 assert!(*tables == expected, "the tables, {which}, seed {seed:#x}, step {step}: {call:?}");
             }
         }
@@ -108,7 +112,8 @@ fn refused_alike(links: &[Link], mut tables: Tables, what: &str) {
             let request = Request::default();
             let list = Call::List(LIST_FIGURES, request);
             let sold = Call::Sold { link: u32::MAX };
-            for call in [Call::Cancel(1), Call::MoveClock(0), Call::Book(0, request), Call::Offer(request), list, sold] {
+            for call in [Call::Cancel(1), Call::MoveClock(0), Call::Book(0, request), Call::Offer(request), list, sold]
+            {
                 asked(&call, &expected);
             }
             let another_length = Call::List(LIST_FIGURES + 1, request);
@@ -149,11 +154,8 @@ fn sessions_through_the_programs() {
         let input = session(seed);
         let expected = output(&input);
         for path in [env!("CARGO_BIN_EXE_fast_orders"), env!("CARGO_BIN_EXE_sets_orders")] {
-            let mut program = Command::new(path)
-                .stdin(Stdio::piped())
-                .stdout(Stdio::piped())
-                .spawn()
-                .expect("the program starts");
+            let mut program =
+                Command::new(path).stdin(Stdio::piped()).stdout(Stdio::piped()).spawn().expect("the program starts");
             program.stdin.take().expect("a pipe").write_all(&input).expect("the program reads all");
             let printed = program.wait_with_output().expect("the program ends").stdout;
             assert_eq!(String::from_utf8_lossy(&printed), expected, "{path}, seed {seed:#x}");

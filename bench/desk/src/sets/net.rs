@@ -4,8 +4,9 @@ use desk_tests::{Link, LINKS, NODES, PATH_LINKS};
 
 use crate::fast::{members, Path};
 
-/// The ends of the links, and the links out of each node and into it.
+/// The number of links, their ends, and the links out of each node and into it.
 pub struct Net {
+    pub count: usize,
     from: [u8; LINKS],
     to: [u8; LINKS],
     out: [u64; NODES],
@@ -22,7 +23,7 @@ pub struct Route {
 impl Net {
     /// The net of valid links, of which there are 64 at most.
     pub fn new(links: &[Link]) -> Net {
-        let mut net = Net { from: [0; LINKS], to: [0; LINKS], out: [0; NODES], into: [0; NODES] };
+        let mut net = Net { count: links.len(), from: [0; LINKS], to: [0; LINKS], out: [0; NODES], into: [0; NODES] };
         for (number, link) in links.iter().enumerate() {
             (net.from[number], net.to[number]) = (link.from as u8, link.to as u8);
             net.out[link.from as usize % NODES] |= 1 << number;

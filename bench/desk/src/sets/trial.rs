@@ -123,7 +123,8 @@ impl Trial<'_> {
             self.row += 1;
         }
         while self.past < self.events.len() && self.events[self.past] < start + self.span {
-            self.enough[self.past] = mask(&self.free[self.past * ROW..][..ROW], self.request.bandwidth);
+            let row = &self.free[self.past * ROW..][..self.net.count];
+            self.enough[self.past] = mask(row, self.request.bandwidth);
             self.past += 1;
         }
         self.enough[self.row..self.past].iter().fold(u64::MAX, |usable, set| usable & set)
@@ -153,22 +154,23 @@ impl Trial<'_> {
     }
 }
 
-/// The links of a row with enough bandwidth; past the last link a figure is 0.
+/// The links of a row with enough bandwidth.
 fn mask(row: &[u32], bandwidth: u32) -> u64 {
-    let (low, high) = row.split_at(ROW / 2);
-    u64::from(half_mask(low, bandwidth)) | u64::from(half_mask(high, bandwidth)) << (ROW / 2)
+    let (low, high) = row.split_at(row.len().min(HALF));
+    u64::from(half_mask(low, bandwidth)) | u64::from(half_mask(high, bandwidth)) << HALF
 }
 
-/// The same of half a row. No figure is so high that its sign counts.
+/// The same of half a row, by the sign of what is left over: so the compiler takes several links at a time.
 fn half_mask(figures: &[u32], bandwidth: u32) -> u32 {
-    let enough = |(&figure, &bit): (&u32, &u32)| if (figure as i32) < bandwidth as i32 { 0 } else { bit };
+    let enough = |(&figure, &bit): (&u32, &u32)| !(figure.wrapping_sub(bandwidth) as i32 >> 31) as u32 & bit;
     figures.iter().zip(&BITS).map(enough).fold(0, |mask, bit| mask | bit)
 }
 
-static BITS: [u32; ROW / 2] = bits();
+const HALF: usize = ROW / 2;
+static BITS: [u32; HALF] = bits();
 
-const fn bits() -> [u32; ROW / 2] {
-    let mut bits = [0; ROW / 2];
+const fn bits() -> [u32; HALF] {
+    let mut bits = [0; HALF];
     let mut place = 0;
     while place < bits.len() {
         bits[place] = 1 << place;
