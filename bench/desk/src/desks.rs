@@ -12,56 +12,21 @@ pub struct Work {
     pub call: Call,
 }
 
-/// The eight calls but for the listing on a desk, with a request that starts at low and one that has no start. The last booking
-/// is cancelled, and booked again by the request on a desk without it.
-pub fn works(desk: &Desk, at_low: Request, no_start: Request, later: u32) -> Vec<Work> {
-    let last = desk.bookings.iter().map(|booking| booking.number).max().expect("bookings");
-    let mut room = desk.clone();
-    room.cancel(last).expect("it stands");
-    let (links, guard) = (desk.links.clone(), desk.guard);
-    let on = |desk: &Desk, what: &str, call: Call| Work { what: what.to_string(), desk: desk.clone(), call };
-    vec![
-        on(desk, "show", Call::Show { link: 0, minute: later }),
-        on(desk, "sold work", Call::Sold { link: 0 }),
-        on(desk, "offer at low", Call::Offer(at_low)),
-        on(desk, "offer, no start", Call::Offer(no_start)),
-        on(&room, "book", Call::Book(last, at_low)),
-        on(desk, "cancel", Call::Cancel(last)),
-        on(desk, "move the clock", Call::MoveClock(later)),
-        on(desk, "set up", Call::SetUp { links, guard }),
-    ]
+impl Work {
+    fn new(what: &str, desk: &Desk, call: Call) -> Work {
+        Work { what: what.to_string(), desk: desk.clone(), call }
+    }
 }
 
-/// The calls on the fullest desk.
+/// The calls on the fullest desk; the clock moves past all starts.
 pub fn fullest() -> Vec<Work> {
     let desk = chain(LINKS as u32, BOOKINGS as u32);
-    let request = after_all(&desk);
-    works(&desk, request, Request { from: request.to, to: request.from, ..request }, 500)
+    let request = behind_all(&desk);
+    calls(&desk, request, Request { from: request.to, to: request.from, ..request }, 500)
 }
 
-/// A request over all of a chain, from its last start on.
-fn after_all(desk: &Desk) -> Request {
-    let to = desk.links.iter().map(|link| link.to).max().expect("links");
-    let earliest = desk.bookings.len() as u32;
-    Request { from: 0, to, bandwidth: 10_000, duration: 999, earliest, latest: MAX_MINUTE }
-}
-
-/// Showing, an offer at low and the last booking on chains with more and more bookings and links.
-pub fn growth() -> Vec<Work> {
-    let mut all = Vec::new();
-    for (links, bookings) in [(64, 1), (64, 8), (64, 64), (8, 64), (1, 64)] {
-        let desk = chain(links, bookings);
-        let request = after_all(&desk);
-        let kinds = ["show", "offer at low", "book"];
-        let grown = works(&desk, request, request, 500).into_iter().filter(|work| kinds.contains(&&*work.what));
-        all.extend(
-            grown.map(|work| Work { what: format!("{}: links {links}, bookings {bookings}", work.what), ..work }),
-        );
-    }
-    all
-}
-
-/// A day on a ring of eight nodes with links both ways: 24 bookings of one to four hours, and two hours asked for.
+/// A day on a ring of eight nodes with links both ways: 24 bookings of one to four hours, and two hours asked for; the clock moves
+/// to noon.
 pub fn typical_day() -> Vec<Work> {
     let ring = |node: u32| {
         let (from, to, capacity) = (node, (node + 1) % 8, 1_000);
@@ -69,17 +34,65 @@ pub fn typical_day() -> Vec<Work> {
     };
     let links: Vec<Link> = (0..8).flat_map(ring).collect();
     let mut desk = Desk::set_up(&links, 0).expect("valid links");
-    let request = Request { from: 0, to: 3, bandwidth: 600, duration: 120, earliest: 0, latest: 1_440 };
     for number in 1..=24 {
         let (from, to) = (number % 8, (number + 1 + number % 3) % 8);
         let (bandwidth, duration, earliest) = (300 + 100 * (number % 5), 60 * (1 + number % 4), number * 7 % 24 * 60);
         let booking = Request { from, to, bandwidth, duration, earliest, latest: MAX_MINUTE };
         desk.book(number, &booking).expect("a later start");
     }
-    let list = Work { what: "list".to_string(), call: listing(request), desk: desk.clone() };
-    let mut all = works(&desk, request, request, 720);
-    all.push(list);
+    let day = Request { from: 0, to: 3, bandwidth: 600, duration: 120, earliest: 0, latest: 1_440 };
+    let at_low = Request { earliest: 540, ..day };
+    let no_start = Request { earliest: 60, latest: 290, ..day };
+    let mut all = calls(&desk, at_low, no_start, 720);
+    all.push(Work::new("list", &desk, listing(day)));
     all
+}
+
+/// Some of the calls on desks with more and more bookings and links.
+pub fn growth() -> Vec<Work> {
+    let sizes = [(64, 1), (64, 8), (64, 64), (8, 64), (1, 64)];
+    let named = |(links, bookings)| {
+        let desk = chain(links, bookings);
+        let grown = some_calls(&desk, behind_all(&desk), 500);
+        grown.map(|work| Work { what: format!("{}: links {links}, bookings {bookings}", work.what), ..work })
+    };
+    sizes.into_iter().flat_map(named).collect()
+}
+
+/// The calls but for the listing, with a request that starts at low, one that has no start, and a later minute. The last booking
+/// is cancelled.
+fn calls(desk: &Desk, at_low: Request, no_start: Request, later: u32) -> Vec<Work> {
+    let (links, guard) = (desk.links.clone(), desk.guard);
+    let others = [
+        Work::new("offer, no start", desk, Call::Offer(no_start)),
+        Work::new("sold work", desk, Call::Sold { link: 0 }),
+        Work::new("cancel", desk, Call::Cancel(last(desk))),
+        Work::new("move the clock", desk, Call::MoveClock(later)),
+        Work::new("set up", desk, Call::SetUp { links, guard }),
+    ];
+    some_calls(desk, at_low, later).into_iter().chain(others).collect()
+}
+
+/// A showing, an offer, and a booking in place of the last one.
+fn some_calls(desk: &Desk, at_low: Request, later: u32) -> [Work; 3] {
+    let mut room = desk.clone();
+    room.cancel(last(desk)).expect("it stands");
+    [
+        Work::new("show", desk, Call::Show { link: 0, minute: later }),
+        Work::new("offer at low", desk, Call::Offer(at_low)),
+        Work::new("book", &room, Call::Book(last(desk), at_low)),
+    ]
+}
+
+fn last(desk: &Desk) -> u32 {
+    desk.bookings.iter().map(|booking| booking.number).max().expect("bookings")
+}
+
+/// A request over all of a chain, from its last start on.
+fn behind_all(desk: &Desk) -> Request {
+    let to = desk.links.iter().map(|link| link.to).max().expect("links");
+    let earliest = desk.bookings.len() as u32;
+    Request { from: 0, to, bandwidth: 10_000, duration: 999, earliest, latest: MAX_MINUTE }
 }
 
 /// The listing that costs most: a line of 32 nodes, 63 bookings of all its 31 hops and one of the first, and 129 events. The
@@ -126,13 +139,14 @@ fn late_break_off() -> (Desk, Request) {
 
 /// What takes long on a line: the longest listing, and the offer that breaks off late.
 pub fn long_line() -> Vec<Work> {
-    let (desk, request) = longest_listing(false);
-    let longest = Work { what: "list, the longest".to_string(), desk, call: listing(request) };
-    let (desk, request) = longest_listing(true);
-    let in_turn = Work { what: "list, links in turn".to_string(), desk, call: listing(request) };
-    let (desk, request) = late_break_off();
-    let what = "offer, no start, a link less at each event".to_string();
-    vec![longest, in_turn, Work { what, desk, call: Call::Offer(request) }]
+    let (longest, of_longest) = longest_listing(false);
+    let (in_turn, of_in_turn) = longest_listing(true);
+    let (broken, of_broken) = late_break_off();
+    vec![
+        Work::new("list, the longest", &longest, listing(of_longest)),
+        Work::new("list, links in turn", &in_turn, listing(of_in_turn)),
+        Work::new("offer, no start, a link less at each event", &broken, Call::Offer(of_broken)),
+    ]
 }
 
 fn listing(request: Request) -> Call {
