@@ -6,7 +6,7 @@ use std::process::{Command, Stdio};
 
 use desk_bench::{Calls, FAST, SETS};
 use desk_tests::cases::cases;
-use desk_tests::damages::{damage, forged, wrong_totals};
+use desk_tests::damages::{damage, forged, wrong_events, wrong_totals};
 use desk_tests::lines::output;
 use desk_tests::listings::{self, KINDS};
 use desk_tests::plain::{Answer, Call, Desk};
@@ -83,13 +83,14 @@ fn damages() {
     }
 }
 
-/// Totals with a mistake are refused.
+/// Events or totals with a mistake are refused.
 #[test]
-fn wrong_totals_are_refused() {
+fn wrong_events_and_totals_are_refused() {
     let mut random = Random::new(SEED);
     each_desk(SEED, |desk, place| {
-        for (what, totals) in wrong_totals(&mut random, desk) {
-            let tables = Tables { totals, ..tables::of(desk) };
+        let totals = wrong_totals(&mut random, desk).into_iter();
+        let totals = totals.map(|(what, totals)| (what, Tables { totals, ..tables::of(desk) }));
+        for (what, tables) in totals.chain(wrong_events(&mut random, desk)) {
             refused_alike(&desk.links, tables, &format!("{place}: {what}"));
         }
     });
