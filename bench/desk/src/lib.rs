@@ -3,12 +3,13 @@
 pub mod fast;
 pub mod program;
 pub mod sets;
+pub mod shared;
 
 use desk_tests::exported::listing;
 use desk_tests::plain::{self, Answer, Call};
 use desk_tests::tables;
 use desk_tests::{Link, Refused, Request};
-use fast::{Start, Tables};
+use shared::{Start, Tables};
 
 /// The same tables, lent to an unverified desk.
 pub fn lent(tables: &mut tables::Tables) -> Tables<'_> {

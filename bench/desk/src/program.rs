@@ -6,7 +6,7 @@ use desk_tests::lines::{read_link, read_order, LINK_BYTES, ORDER_BYTES};
 use desk_tests::plain::Call;
 use desk_tests::{Link, Refused, Request, LINKS};
 
-use crate::fast::Start;
+use crate::shared::Start;
 
 /// A desk that has been set up, as the program asks it.
 pub trait Desk: Sized {

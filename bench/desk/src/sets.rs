@@ -1,14 +1,14 @@
 //! A plain desk with the same checks and tables, by other algorithms: soundness in one pass, masks of links and path search on sets
-//! of bits, changes made in place. What has no other algorithm it shares with `fast`; set-up is the same.
+//! of bits, changes made in place. What has no other algorithm is `shared` with the desk as it stands, set-up too.
 
 mod net;
 pub mod on_sound;
 mod one_pass;
 mod trial;
 
-use desk_tests::{Link, Refused, Request, LIST_FIGURES};
+use desk_tests::{Link, Refused, Request};
 
-use crate::fast::{check_sizes, shown, sold, Start, Tables};
+use crate::shared::{check_sizes, check_sizes_and_list, shown, sold, Start, Tables};
 
 pub use crate::fast::set_up;
 pub use net::Net;
@@ -27,10 +27,7 @@ pub fn offer(links: &[Link], tables: &Tables, request: &Request) -> Result<Start
 
 /// Writes every start there is as ranges into the list, and answers their number. Refuses 1, 13, 3, 4, 5.
 pub fn list(links: &[Link], tables: &Tables, request: &Request, list: &mut [u32]) -> Result<u32, u32> {
-    check_sizes(links, tables)?;
-    if list.len() != LIST_FIGURES {
-        return Err(13);
-    }
+    check_sizes_and_list(links, tables, list)?;
     let rows = one_pass::sound(links, tables).ok_or(3u32)?;
     on_sound::list(&Net::new(links), tables, rows, request, list)
 }

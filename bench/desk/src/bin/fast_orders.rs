@@ -1,7 +1,7 @@
 //! Runs the orders of standard input on the unverified desk as it stands: each order checks the tables.
 
-use desk_bench::fast::{self, Start};
-use desk_bench::{lent, program};
+use desk_bench::shared::Start;
+use desk_bench::{fast, lent, program};
 use desk_tests::tables::Tables;
 use desk_tests::{Link, Refused, Request};
 

@@ -1,8 +1,8 @@
 //! Runs the orders of standard input on the unverified desk by other algorithms: the tables stay with it, so no order checks
 //! them, and its net and number of rows are kept.
 
-use desk_bench::fast::Start;
 use desk_bench::sets::{on_sound, set_up, Net};
+use desk_bench::shared::Start;
 use desk_bench::{lent, program};
 use desk_tests::tables::Tables;
 use desk_tests::{Link, Refused, Request};

@@ -2,7 +2,7 @@
 
 use desk_tests::{Link, LINKS, NODES, PATH_LINKS};
 
-use crate::fast::{members, Path};
+use crate::shared::{members, Path};
 
 /// The number of links, their ends, and the links out of each node and into it.
 pub struct Net {

@@ -6,8 +6,8 @@ use desk_tests::{Refused, Request, PLACE, ROW};
 
 use super::net::Net;
 use super::trial::{choose, list_ranges};
-use crate::fast::{check_booking, check_cancelling, check_minute, check_request, drop_ended, enter, take_out};
-use crate::fast::{guarded_end, path, row_at, work, Start, Tables, BANDWIDTH, START};
+use crate::shared::{check_booking, check_cancelling, check_minute, check_request, drop_ended, enter, take_out};
+use crate::shared::{guarded_end, path, row_at, work, Start, Tables, BANDWIDTH, START};
 
 /// Refuses 4, 5, 6, 7, 8.
 pub fn book(

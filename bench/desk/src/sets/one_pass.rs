@@ -3,8 +3,8 @@
 
 use desk_tests::{Head, Link, BOOKINGS, EVENTS, PLACE, ROW, TOTALS};
 
-use crate::fast::{add_work, all_zero, guarded_end, path, valid_booking, valid_head, valid_link, Tables};
-use crate::fast::{BANDWIDTH, NUMBER, START};
+use crate::shared::{add_work, all_zero, guarded_end, path, valid_booking, valid_head, valid_link, Tables};
+use crate::shared::{BANDWIDTH, NUMBER, START};
 
 /// The number of events, if the tables are sound.
 pub fn sound(links: &[Link], tables: &Tables) -> Option<usize> {

@@ -4,7 +4,7 @@
 use desk_tests::{Refused, Request, EVENTS, ROW};
 
 use super::net::{Net, Route};
-use crate::fast::{row_at, Start, Tables};
+use crate::shared::{row_at, Start, Tables};
 
 /// The best start among low and the later events of the window, or 8 with its minute.
 pub fn choose(net: &Net, tables: &Tables, rows: usize, request: &Request) -> Result<Start, Refused> {
