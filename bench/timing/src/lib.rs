@@ -3,8 +3,8 @@
 use std::time::Instant;
 
 /// Nanoseconds of a batch, and of all batches of the ways of one work.
-const BATCH: f64 = 150e3;
-const ALL: f64 = 600e6;
+const BATCH: f64 = 100e3;
+const ALL: f64 = 1e9;
 
 /// Runs `ours` and `plain` alternately and prints the least nanoseconds for each of `units` units of work, and their ratio.
 pub fn compare(what: &str, units: u32, mut ours: impl FnMut(), mut plain: impl FnMut()) {
@@ -24,7 +24,7 @@ pub fn least(units: u32, ways: &mut [&mut dyn FnMut()]) -> Vec<f64> {
     best.iter().map(|best| best / units as f64).collect()
 }
 
-/// Runs the ways in turn, each in batches of some 150 microseconds, 25 times or more; the least nanoseconds of each.
+/// Runs the ways in turn, each in batches of some 100 microseconds, for a second and 25 times at least; the least nanoseconds of each.
 pub fn least_of_batches(ways: &mut [impl FnMut()]) -> Vec<f64> {
     let times = |way: &mut _| (BATCH / nanoseconds(way)).clamp(1.0, 100.0) as u32;
     ways.iter_mut().for_each(|way| way());
