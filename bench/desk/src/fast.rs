@@ -3,35 +3,12 @@
 //! then what documents 01 and 02 ask of the call. A refused call writes nothing.
 
 use desk_tests::{Head, Link, Refused, Request};
-use desk_tests::{BOOKINGS, EVENTS, LINKS, LIST_FIGURES, NODES, PATH_LINKS, PLACE, ROW, TOTALS};
-use desk_tests::{MAX_BANDWIDTH, MAX_CAPACITY, MAX_DURATION, MAX_GUARD, MAX_MINUTE, MAX_NUMBER, MAX_SHOWN};
+use desk_tests::{EVENTS, MAX_GUARD, NODES, PATH_LINKS, PLACE, ROW, TOTALS};
 
-// The fields of a place of the book; the path follows them.
-const NUMBER: usize = 0;
-const START: usize = 1;
-const DURATION: usize = 2;
-const BANDWIDTH: usize = 3;
-const COUNT: usize = 4;
-const PATH: usize = 5;
-
-/// The lent head and tables of a desk.
-pub struct Tables<'a> {
-    pub head: &'a mut Head,
-    pub events: &'a mut [u32],
-    pub free: &'a mut [u32],
-    pub book: &'a mut [u32],
-    pub totals: &'a mut [u64],
-}
-
-pub type Path = [u32; PATH_LINKS];
-
-/// A start minute with its path, of which the first `count` links are used.
-#[derive(Clone, Copy, Debug, PartialEq, Eq)]
-pub struct Start {
-    pub minute: u32,
-    pub count: u32,
-    pub path: Path,
-}
+use crate::shared::{add_work, all_zero, guarded_end, members, path, row_at, valid_booking, valid_head, valid_link};
+use crate::shared::{check_booking, check_cancelling, check_minute, check_request, check_sizes, check_sizes_and_list};
+use crate::shared::{drop_ended, enter, shown, sold, take_out};
+use crate::shared::{Path, Start, Tables, BANDWIDTH, NUMBER, START};
 
 /// Refuses 1, 4, 2.
 pub fn set_up(links: &[Link], tables: &mut Tables, guard: u32) -> Result<(), u32> {
@@ -51,55 +28,32 @@ pub fn set_up(links: &[Link], tables: &mut Tables, guard: u32) -> Result<(), u32
 /// Refuses 1, 3, 4, 5, 6, 7, 8.
 pub fn book(links: &[Link], tables: &mut Tables, number: u32, request: &Request) -> Result<Start, Refused> {
     let events = check_tables(links, tables)?;
-    if !valid_number(number) {
-        return Err(4.into());
-    }
-    check_request(tables.head.clock, request)?;
-    let Err(place) = find(tables, number) else { return Err(6.into()) };
-    if tables.head.bookings as usize == BOOKINGS {
-        return Err(7.into());
-    }
+    let place = check_booking(tables, number, request)?;
     let start = choose(links, tables, events, request)?;
-    let (first, events) = insert_event(tables, events, start.minute);
-    let (end, _) = insert_event(tables, events, start.minute + request.duration + tables.head.guard);
-    for row in tables.free[first * ROW..end * ROW].chunks_exact_mut(ROW) {
-        for &link in &start.path[..start.count as usize] {
-            row[link as usize] -= request.bandwidth;
-        }
-    }
-    let used = tables.head.bookings as usize * PLACE;
-    tables.book.copy_within(place * PLACE..used, (place + 1) * PLACE);
-    let figures = &mut tables.book[place * PLACE..][..PLACE];
-    figures[..PATH].copy_from_slice(&[number, start.minute, request.duration, request.bandwidth, start.count]);
-    figures[PATH..].copy_from_slice(&start.path);
-    add_work(figures, tables.totals);
-    tables.head.bookings += 1;
+    enter(tables, events, place, number, request, &start);
     Ok(start)
 }
 
 /// Refuses 1, 3, 4, 5, 8.
 pub fn offer(links: &[Link], tables: &Tables, request: &Request) -> Result<Start, Refused> {
-    let events = check_offer(links, tables, request)?;
+    let events = check_tables(links, tables)?;
+    check_request(tables.head.clock, request)?;
     choose(links, tables, events, request)
 }
 
 /// Writes every start there is as ranges into the list, and answers their number. Refuses 1, 13, 3, 4, 5.
 pub fn list(links: &[Link], tables: &Tables, request: &Request, list: &mut [u32]) -> Result<u32, u32> {
-    let events = check_listing(links, tables, request, list)?;
+    check_sizes_and_list(links, tables, list)?;
+    let events = sound(links, tables).ok_or(3u32)?;
+    check_request(tables.head.clock, request)?;
     Ok(list_ranges(links, tables, events, request, list))
 }
 
 /// Refuses 1, 3, 4, 9.
 pub fn cancel(links: &[Link], tables: &mut Tables, number: u32) -> Result<(), u32> {
     check_tables(links, tables)?;
-    if !valid_number(number) {
-        return Err(4);
-    }
-    let place = find(tables, number).map_err(|_| 9u32)?;
-    let used = tables.head.bookings as usize * PLACE;
-    tables.book.copy_within((place + 1) * PLACE..used, place * PLACE);
-    tables.book[used - PLACE..used].fill(0);
-    tables.head.bookings -= 1;
+    let place = check_cancelling(tables, number)?;
+    take_out(tables, place);
     write_figures(links, tables);
     Ok(())
 }
@@ -107,23 +61,8 @@ pub fn cancel(links: &[Link], tables: &mut Tables, number: u32) -> Result<(), u3
 /// Refuses 1, 3, 4, 10.
 pub fn move_clock(links: &[Link], tables: &mut Tables, minute: u32) -> Result<(), u32> {
     check_tables(links, tables)?;
-    if minute > MAX_MINUTE {
-        return Err(4);
-    }
-    if minute < tables.head.clock {
-        return Err(10);
-    }
-    let used = tables.head.bookings as usize;
-    let mut kept = 0;
-    for place in 0..used {
-        let figures = place * PLACE..(place + 1) * PLACE;
-        if guarded_end(&tables.book[figures.clone()], tables.head.guard) > minute {
-            tables.book.copy_within(figures, kept * PLACE);
-            kept += 1;
-        }
-    }
-    tables.book[kept * PLACE..used * PLACE].fill(0);
-    tables.head.bookings = kept as u32;
+    check_minute(tables.head.clock, minute)?;
+    drop_ended(tables, minute);
     tables.head.clock = minute;
     write_figures(links, tables);
     Ok(())
@@ -132,29 +71,13 @@ pub fn move_clock(links: &[Link], tables: &mut Tables, minute: u32) -> Result<()
 /// Refuses 1, 3, 4.
 pub fn show(links: &[Link], tables: &Tables, link: u32, minute: u32) -> Result<u32, u32> {
     let events = check_tables(links, tables)?;
-    if link as usize >= links.len() || minute < tables.head.clock || minute > MAX_SHOWN {
-        return Err(4);
-    }
-    let row = tables.events[..events].partition_point(|&event| event <= minute) - 1;
-    Ok(tables.free[row * ROW + link as usize])
+    shown(links, tables, events, link, minute)
 }
 
 /// Refuses 1, 3, 4.
 pub fn sold_work(links: &[Link], tables: &Tables, link: u32) -> Result<u64, u32> {
     check_tables(links, tables)?;
-    if link as usize >= links.len() {
-        return Err(4);
-    }
-    Ok(tables.totals[link as usize])
-}
-
-fn check_sizes(links: &[Link], tables: &Tables) -> Result<(), u32> {
-    let good = tables.events.len() == EVENTS
-        && tables.free.len() == EVENTS * ROW
-        && tables.book.len() == BOOKINGS * PLACE
-        && tables.totals.len() == TOTALS
-        && (1..=LINKS).contains(&links.len());
-    good.then_some(()).ok_or(1)
+    sold(links, tables, link)
 }
 
 /// Checks sizes and soundness, and answers the number of events.
@@ -163,30 +86,10 @@ fn check_tables(links: &[Link], tables: &Tables) -> Result<usize, u32> {
     sound(links, tables).ok_or(3)
 }
 
-/// The checks of an offer; answers the number of events.
-pub fn check_offer(links: &[Link], tables: &Tables, request: &Request) -> Result<usize, u32> {
-    let events = check_tables(links, tables)?;
-    check_request(tables.head.clock, request)?;
-    Ok(events)
-}
-
-/// The checks of a listing; answers the number of events.
-pub fn check_listing(links: &[Link], tables: &Tables, request: &Request, list: &[u32]) -> Result<usize, u32> {
-    check_sizes(links, tables)?;
-    if list.len() != LIST_FIGURES {
-        return Err(13);
-    }
-    let events = sound(links, tables).ok_or(3u32)?;
-    check_request(tables.head.clock, request)?;
-    Ok(events)
-}
-
 /// The number of events, if the tables are sound.
 fn sound(links: &[Link], tables: &Tables) -> Option<usize> {
-    let &Head { clock, links: count, bookings, guard } = &*tables.head;
-    let in_range = clock <= MAX_MINUTE && guard <= MAX_GUARD;
-    let counts_good = count as usize == links.len() && bookings as usize <= BOOKINGS;
-    if !in_range || !counts_good || !links.iter().all(valid_link) {
+    let &Head { clock, bookings, guard, .. } = &*tables.head;
+    if !valid_head(links, tables.head) || !links.iter().all(valid_link) {
         return None;
     }
     let (used, unused) = tables.book.split_at(bookings as usize * PLACE);
@@ -206,51 +109,6 @@ fn sound(links: &[Link], tables: &Tables) -> Option<usize> {
     let figures = rows * ROW;
     let same = tables.events == events && tables.free[..figures] == free[..figures];
     (same && all_zero(&tables.free[figures..]) && tables.totals == make_totals(used)).then_some(rows)
-}
-
-fn all_zero(figures: &[u32]) -> bool {
-    figures.iter().fold(0, |any, figure| any | figure) == 0
-}
-
-fn valid_link(link: &Link) -> bool {
-    link.from < NODES as u32
-        && link.to < NODES as u32
-        && link.from != link.to
-        && (1..=MAX_CAPACITY).contains(&link.capacity)
-}
-
-fn valid_number(number: u32) -> bool {
-    (1..=MAX_NUMBER).contains(&number)
-}
-
-/// Whether a used place has its figures in range, stands at the clock and has a path with zeros behind it.
-fn valid_booking(links: &[Link], clock: u32, guard: u32, place: &[u32]) -> bool {
-    let count = place[COUNT] as usize;
-    let in_range = valid_number(place[NUMBER])
-        && place[START] <= MAX_MINUTE
-        && (1..=MAX_DURATION).contains(&place[DURATION])
-        && (1..=MAX_BANDWIDTH).contains(&place[BANDWIDTH])
-        && (1..=PATH_LINKS).contains(&count);
-    if !in_range || guarded_end(place, guard) <= clock {
-        return false;
-    }
-    let (path, rest) = place[PATH..].split_at(count);
-    let Some(first) = links.get(path[0] as usize) else { return false };
-    let (mut node, mut met) = (first.from, 1u32 << first.from);
-    for &number in path {
-        let Some(link) = links.get(number as usize) else { return false };
-        if link.from != node || met >> link.to & 1 == 1 {
-            return false;
-        }
-        node = link.to;
-        met |= 1 << node;
-    }
-    all_zero(rest)
-}
-
-/// The minute from which on the booking of a place holds nothing and no longer stands.
-fn guarded_end(place: &[u32], guard: u32) -> u32 {
-    place[START] + place[DURATION] + guard
 }
 
 /// Writes the events that clock, guard and bookings give, and answers their number.
@@ -284,7 +142,7 @@ fn make_free(links: &[Link], guard: u32, used: &[u32], events: &[u32], free: &mu
     free[..events.len() * ROW].chunks_exact_mut(ROW).for_each(|row| row.copy_from_slice(&full));
     let mut oversold = false;
     for place in used.chunks_exact(PLACE) {
-        let (bandwidth, path) = (place[BANDWIDTH], &place[PATH..][..place[COUNT] as usize]);
+        let (bandwidth, path) = (place[BANDWIDTH], path(place));
         let first = events.partition_point(|&event| event < place[START]);
         let end = events.partition_point(|&event| event < guarded_end(place, guard));
         for row in free[first * ROW..end * ROW].chunks_exact_mut(ROW) {
@@ -305,12 +163,6 @@ fn make_totals(used: &[u32]) -> [u64; TOTALS] {
     totals
 }
 
-/// Adds the work of the booking of a place to the totals of its links.
-fn add_work(place: &[u32], totals: &mut [u64]) {
-    let work = u64::from(place[BANDWIDTH]) * u64::from(place[DURATION]);
-    place[PATH..][..place[COUNT] as usize].iter().for_each(|&link| totals[link as usize] += work);
-}
-
 /// Makes events, free figures and totals anew from head and book, which are sound.
 fn write_figures(links: &[Link], tables: &mut Tables) {
     let used = &tables.book[..tables.head.bookings as usize * PLACE];
@@ -323,53 +175,11 @@ fn write_figures(links: &[Link], tables: &mut Tables) {
     tables.totals.copy_from_slice(&make_totals(used));
 }
 
-/// Refuses 4, 5.
-fn check_request(clock: u32, request: &Request) -> Result<(), u32> {
-    let in_range = request.from < NODES as u32
-        && request.to < NODES as u32
-        && request.from != request.to
-        && (1..=MAX_BANDWIDTH).contains(&request.bandwidth)
-        && (1..=MAX_DURATION).contains(&request.duration)
-        && request.earliest <= MAX_MINUTE
-        && request.latest <= MAX_MINUTE;
-    if !in_range {
-        return Err(4);
-    }
-    if request.latest < request.earliest.max(clock) {
-        return Err(5);
-    }
-    Ok(())
-}
-
-/// The place of a standing number, or the place where it would go.
-fn find(tables: &Tables, number: u32) -> Result<usize, usize> {
-    let used = &tables.book[..tables.head.bookings as usize * PLACE];
-    let place = used.chunks_exact(PLACE).position(|place| place[NUMBER] >= number).unwrap_or(used.len() / PLACE);
-    if used.get(place * PLACE) == Some(&number) {
-        Ok(place)
-    } else {
-        Err(place)
-    }
-}
-
-/// Adds an event with a copy of the row before it, if it isn't there; answers its row and the number of events.
-fn insert_event(tables: &mut Tables, events: usize, minute: u32) -> (usize, usize) {
-    let row = tables.events[..events].partition_point(|&event| event < minute);
-    if row < events && tables.events[row] == minute {
-        return (row, events);
-    }
-    tables.events.copy_within(row..events, row + 1);
-    tables.events[row] = minute;
-    // The rows from the one before on move up by one, and that one stays as well.
-    tables.free.copy_within((row - 1) * ROW..events * ROW, row * ROW);
-    (row, events + 1)
-}
-
 /// The best start among low and the later events of the window, or 8 with its minute.
 fn choose(links: &[Link], tables: &Tables, events: usize, request: &Request) -> Result<Start, Refused> {
     let events = &tables.events[..events];
     let low = request.earliest.max(tables.head.clock);
-    let first = events.partition_point(|&event| event <= low) - 1;
+    let first = row_at(events, low);
     let enough = enough(links, tables, first, events.len(), request.bandwidth);
     let mut without_path = 0;
     for row in first..events.len() {
@@ -422,11 +232,11 @@ fn list_ranges(links: &[Link], tables: &Tables, events: usize, request: &Request
     let &Request { from, to, bandwidth, latest, .. } = request;
     let span = request.duration + tables.head.guard;
     let low = request.earliest.max(tables.head.clock);
-    let first = events.partition_point(|&event| event <= low) - 1;
+    let first = row_at(events, low);
     let enough = enough(links, tables, first, events.len(), bandwidth);
     let mut searched = (0, false);
     let mut possible = |minute: u32| {
-        let row = events.partition_point(|&event| event <= minute) - 1;
+        let row = row_at(events, minute);
         let later = events[row + 1..].iter().take_while(|&&event| event < minute + span).count();
         let usable = enough[row..=row + later].iter().fold(u64::MAX, |usable, set| usable & set);
         if usable != searched.0 {
@@ -495,13 +305,4 @@ fn rounds(links: &[Link], usable: u64, from: u32, to: u32) -> Option<([u32; NODE
         rounds[hops] = next;
     }
     Some((rounds, hops))
-}
-
-/// The numbers of a set of links, rising.
-fn members(mut set: u64) -> impl Iterator<Item = usize> {
-    std::iter::from_fn(move || {
-        let number = set.trailing_zeros() as usize;
-        set &= set.wrapping_sub(1);
-        (number < LINKS).then_some(number)
-    })
 }

@@ -1,5 +1,5 @@
 //! Random damages: one figure of the head, the events, the free figures, the book, the totals or a link changed, or a length
-//! changed; totals with a mistake; and forged tables, whose figures all agree with a book that breaks a rule.
+//! changed; events or totals with a mistake; and forged tables, whose figures all agree with a book that breaks a rule.
 
 use support::Random;
 
@@ -133,6 +133,47 @@ pub fn wrong_totals(random: &mut Random, desk: &Desk) -> Vec<(&'static str, Vec<
     }
     wrong.retain(|(_, totals)| *totals != right);
     wrong
+}
+
+/// Tables of a desk with one mistake in their events, each row moved with its event, and which.
+pub fn wrong_events(random: &mut Random, desk: &Desk) -> Vec<(&'static str, Tables)> {
+    let (right, used) = (tables::of(desk), desk.events().len());
+    let row = random.below(used as u64) as usize;
+    let minute = right.events[row];
+    let mut wrong = Vec::new();
+    if used < EVENTS {
+        let next = if row + 1 < used { right.events[row + 1] } else { minute + MAX_DURATION };
+        let between = random.within(minute as u64, next as u64 - 1) as u32;
+        wrong.push(("one more", with_event(&right, row, between)));
+        wrong.push(("one twice", with_event(&right, row, minute)));
+    }
+    if row > 0 {
+        let mut late = right.clone();
+        late.events[row] += 1;
+        wrong.push(("one late", late));
+        wrong.push(("one left out", without_event(&right, row)));
+    }
+    wrong
+}
+
+/// The tables with one event more behind a row, and a copy of that row.
+fn with_event(tables: &Tables, row: usize, minute: u32) -> Tables {
+    let mut tables = tables.clone();
+    tables.events.insert(row + 1, minute);
+    tables.events.truncate(EVENTS);
+    tables.free.extend_from_within(row * ROW..EVENTS * ROW - ROW);
+    tables.free.drain((row + 1) * ROW..EVENTS * ROW);
+    tables
+}
+
+/// The tables without the event of a row and without that row.
+fn without_event(tables: &Tables, row: usize) -> Tables {
+    let mut tables = tables.clone();
+    tables.events.remove(row);
+    tables.events.push(0);
+    tables.free.drain(row * ROW..(row + 1) * ROW);
+    tables.free.resize(EVENTS * ROW, 0);
+    tables
 }
 
 /// Links and tables of the right sizes that are not sound.

@@ -58,13 +58,19 @@ pub fn orders_file(random: &mut Random, style: Style, guard: u32, orders: u64) -
 
 /// The fullest desk: 64 links, 64 bookings of 31 links each, and 129 events; no guard.
 pub fn fullest() -> Desk {
-    let hops = PATH_LINKS as u32;
-    let chain = |link: u32| Link { from: link % hops, to: link % hops + 1, capacity: MAX_CAPACITY };
-    let links: Vec<Link> = (0..LINKS as u32).map(chain).collect();
+    chain(LINKS as u32, BOOKINGS as u32)
+}
+
+/// A chain of up to 31 links, the others beside its first ones, and bookings of the whole chain, each a minute after the one
+/// before; no guard.
+pub fn chain(links: u32, bookings: u32) -> Desk {
+    let hops = links.min(PATH_LINKS as u32);
+    let link = |number: u32| Link { from: number % hops, to: number % hops + 1, capacity: MAX_CAPACITY };
+    let links: Vec<Link> = (0..links).map(link).collect();
     let mut desk = Desk::set_up(&links, 0).expect("valid links");
-    for number in 1..=BOOKINGS as u32 {
+    for number in 1..=bookings {
         let request = Request { from: 0, to: hops, bandwidth: 10_000, duration: 999, earliest: number, latest: number };
-        desk.book(number, &request).expect("room for 64 bookings");
+        desk.book(number, &request).expect("room for each booking");
     }
     desk
 }
