@@ -1,8 +1,8 @@
 -- Events taken out, as the code does it on lists, and as laws of the events of a clock and its times: one that is no time any more,
 -- and all up to a minute.
-use mathlib.Core.Path.{◌≡◌, refl, sym, ap, ap₂, ◌∙◌}
-use mathlib.Core.List.{List, [], ◌∷◌, ◌++◌, append-nil}
-use Prim.Native.Nat.{ℕ, zero, suc, ◌+◌, ◌-◌, ◌*◌, ◌≤◌, ◌<◌}
+use mathlib.Core.Path.{◌≡◌, refl, sym, ap, ◌∙◌}
+use mathlib.Core.List.{List, ◌++◌}
+use Prim.Native.Nat.{ℕ, zero, suc, ◌*◌, ◌<◌}
 use native.Mathlib.Omega.{arith}
 use lib.ListN.{set, take, drop, replicate}
 use lib.Seq.{drop-drop}
@@ -15,7 +15,7 @@ use Rattle.timeline.specs.Removal.{drop_front, cut, unless_first, without_event,
 cut_in_part : (at n : ℕ) (l : List ℕ) → take at l ++ drop_front n (drop at l) ≡ cut at n l
 cut_in_part at n l = ap (λ (r : List ℕ). take at l ++ (r ++ replicate n 0)) (drop-drop n at l)
 
-later_row : (i : ℕ) → 0 < i → (new old : List ℕ) → unless_first i new old ≡ new
+pub later_row : (i : ℕ) → 0 < i → (new old : List ℕ) → unless_first i new old ≡ new
 later_row zero h new old = absurd (omega arith)
 later_row (suc i) h new old = refl
 
