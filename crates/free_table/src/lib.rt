@@ -10,10 +10,12 @@ ghost use Rattle.free_table.specs.Taking.{less_rows, less_span, Sized};
 
 mod interval;
 mod missing;
+mod spans;
 mod view;
 
 pub use interval::Interval;
 pub use missing::Missing;
+pub use spans::give_span;
 use timeline::row_at;
 use units::{Bandwidth, LinkNumber, Minute, ROW};
 pub use view::FreeTable;
