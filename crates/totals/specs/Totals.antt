@@ -1,5 +1,5 @@
 -- What the totals of a book are, booking by booking, and what a place must be for its work to be added.
-use Rattle.std.specs.Prelude.{◌≡◌, List, [], ◌∷◌, map, ℕ, ◌+◌, ◌*◌, ◌≤◌, ◌<◌, length, get_or, set}
+use Rattle.std.specs.Prelude.{◌≡◌, List, [], ◌∷◌, map, ℕ, ◌+◌, ◌-◌, ◌*◌, ◌≤◌, ◌<◌, length, get_or, set}
 use Rattle.units.specs.Limits.{most_totals, most_hops, most_bookings, place_size}
 use Rattle.units.specs.Lists.{count_from, All, Distinct}
 use Rattle.units.specs.Work.{work_of, most_work}
@@ -15,6 +15,11 @@ place_work b = work_of b.bandwidth.0 b.duration.0
 unfoldable pub more_along : ℕ → List ℕ → List ℕ → List ℕ
 more_along x [] t = t
 more_along x (l ∷ ls) t = more_along x ls (set t l (get_or t l 0 + x))
+
+-- and with it dropped
+unfoldable pub less_along : ℕ → List ℕ → List ℕ → List ℕ
+less_along x [] t = t
+less_along x (l ∷ ls) t = less_along x ls (set t l (get_or t l 0 - x))
 
 -- all totals of a list of bookings
 abbrev pub totals_of : List Booking → List ℕ

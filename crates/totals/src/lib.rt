@@ -1,12 +1,12 @@
-// The sold work of each link, kept ready: a booking's work added to the totals of its links, and all totals anew from a head and its
-// book. Booking adds one; cancelling, moving the clock and the soundness check go through all. Nothing here knows what is free.
+// The sold work of each link, kept ready: a booking's work added to the totals of its links or dropped from them, and all totals anew
+// from a head and its book. Booking adds one, cancelling drops one; the soundness check goes through all. Nothing here knows what is free.
 #![tactic(auto)]
 
 ghost use Rattle.std.specs.Prelude.{◌≡◌, true, ◌↔◌, length};
 ghost use Rattle.units.specs.Limits.{most_totals, most_bookings};
 ghost use Rattle.book.specs.Places.{place_path};
 ghost use Rattle.rules.specs.Tables.{held_by};
-ghost use Rattle.totals.specs.Totals.{place_work, more_along, totals_of, AtMost, WorkRight, CanTotal};
+ghost use Rattle.totals.specs.Totals.{place_work, more_along, less_along, totals_of, AtMost, WorkRight, CanTotal};
 
 use book::{Booking, booking_at};
 use units::{Head, TOTALS, work_of};
@@ -22,6 +22,19 @@ pub fn add_work(totals: &mut [u64], booking: Booking)
     let work = work_of(booking.bandwidth, booking.duration);
     for &link in &booking.links[..booking.count as usize] {
         totals[link as usize] += work.0;
+    }
+}
+
+// Drops a booking's work from the total of each link of its path.
+#[tactic(auto, using(crate::proofs::Along::less_next, crate::proofs::Along::less_done))]
+pub fn drop_work(totals: &mut [u64], booking: Booking)
+    requires right { WorkRight booking }
+    requires sized { length totals.old ≡ most_totals }
+    ensures { totals.new ≡ less_along (place_work booking) (place_path booking) totals.old }
+{
+    let work = work_of(booking.bandwidth, booking.duration);
+    for &link in &booking.links[..booking.count as usize] {
+        totals[link as usize] = totals[link as usize].saturating_sub(work.0);
     }
 }
 
