@@ -11,13 +11,16 @@ ghost use Rattle.lent.specs.Lent.{tables_of, SameLoans};
 ghost use Rattle.rebuild.specs.Rebuilding.{CanRebuild};
 ghost use Rattle.changes.specs.Updating.{booked, Grantable};
 
-use book::{Booking, insert_booking};
+mod releasing;
+
+use book::{Booking, booking_at, insert_booking};
 use lent::Desk;
 use path_search::Path;
 use places::{drop_ended, find, remove_place, slot};
 use rebuild::{RightBooking, add_booking, rebuild};
-use totals::{add_work, write_totals};
-use units::{Duration, Head, Minute, PLACE, Request};
+use releasing::give_back;
+use totals::{add_work, drop_work, write_totals};
+use units::{Duration, Head, Minute, PLACE, ROW, Request};
 
 // Writes a head, and the events, free figures and totals anew from it and the book.
 fn rebuild_desk(desk: &mut Desk<'_>, head: Head)
@@ -62,9 +65,15 @@ pub fn take_out(desk: &mut Desk<'_>, number: u32)
     let Some(place) = find(book, PLACE, head.bookings as usize, number) else {
         return;
     };
+    let booking = booking_at(book, place);
+    let rows = 1 + 2 * head.bookings as usize;
     remove_place(book, PLACE, place);
     head.bookings -= 1;
-    rebuild_desk(desk, head);
+    let events = &mut desk.events[..rows];
+    let free = &mut desk.free[..rows * ROW];
+    give_back(head, events, free, book, RightBooking { booking });
+    drop_work(desk.totals, booking);
+    *desk.head = head;
 }
 
 // Moves the clock on and drops what has ended.

@@ -2,7 +2,7 @@
 -- function of the minute become its rows over the smaller event list.
 use mathlib.Core.Path.{◌≡◌, refl, sym, ap, ap₂, ◌∙◌}
 use mathlib.Core.List.{List, [], ◌∷◌, ◌++◌, map, flatten}
-use mathlib.Core.Bool.{Bool, true, false}
+use mathlib.Core.Bool.{Bool, true, false, cond}
 use Prim.Native.Nat.{ℕ, zero, suc, ◌+◌, ◌-◌, ◌*◌, ◌≤◌, ◌<◌}
 use native.Mathlib.Nat.{le_refl, mul-le-mul_right}
 use native.Mathlib.Omega.{arith}
@@ -15,7 +15,7 @@ use Rattle.units.proofs.Tests.{Rising, Side, below, above, side}
 use Rattle.units.proofs.Padded.{padded_remove, rows, length_rows, all_rows, rows_append, rows_remove}
 use Rattle.timeline.specs.Events.{later, events, further, passed, row_at}
 use Rattle.timeline.specs.Removal.{drop_front, cut, unless_first, without_event, without_row, events_from, rows_from}
-use Rattle.timeline.proofs.Events.{later_skips, later_rises, later_only, member_later}
+use Rattle.timeline.proofs.Events.{later_skips, later_again, later_rises, later_only, member_later}
 use Rattle.timeline.proofs.Steady.{ChangesAt, pick, last_before, last_event, steady}
 use Rattle.timeline.proofs.Rows.{passed_padded, passed_length}
 use Rattle.timeline.proofs.Places.{event_row, row_early}
@@ -77,6 +77,32 @@ module _ (n c m : ℕ) (ts : List ℕ) (few : length (events c (m ∷ ts)) ≤ n
           ∙ ap (λ (l : List ℕ). cut (length (front c m ts) * k) k (all_rows 0 f k n l)) (sym (around c m ts h a))
           ∙ sym (rows_remove 0 f k n (front c m ts) m (back c m ts) (rows f k sized (front c m ts ++ (m ∷ back c m ts))) (enough h a))
           ∙ ap (all_rows 0 f k n) (joined c m ts)
+
+-- ---- the event of a time that is one of the others, or no time any more
+
+module _ (n c m : ℕ) (ts : List ℕ) (few : length (events c (m ∷ ts)) ≤ n) (needed : Bool) (is : needed ≡ member m ts) where
+  -- a time that is among the others, or not later than the clock, is no event more
+  again : member m ts ≡ true → later c (m ∷ ts) ≡ later c ts
+  again e = by (side c m)
+    where
+      by : Side c m → later c (m ∷ ts) ≡ later c ts
+      by (above h) = later_skips c m ts h
+      by (below h) = later_again c m ts h e
+
+  pub event_dropped : cond needed (padded n (events c (m ∷ ts))) (without_event m (padded n (events c (m ∷ ts)))) ≡ padded n (events c ts)
+  event_dropped = by needed is
+    where
+      by : (t : Bool) → t ≡ member m ts → cond t (padded n (events c (m ∷ ts))) (without_event m (padded n (events c (m ∷ ts)))) ≡ padded n (events c ts)
+      by true e = ap (λ (l : List ℕ). padded n (c ∷ l)) (again (sym e))
+      by false e = without_event_events n c m ts few (sym e)
+
+  pub row_dropped : (f : ℕ → List ℕ) (k : ℕ) → ((e : ℕ) → length (f e) ≡ k)
+      → cond needed (all_rows 0 f k n (events c (m ∷ ts))) (without_row k (padded n (events c (m ∷ ts))) m (all_rows 0 f k n (events c (m ∷ ts)))) ≡ all_rows 0 f k n (events c ts)
+  row_dropped f k sized = by needed is
+    where
+      by : (t : Bool) → t ≡ member m ts → cond t (all_rows 0 f k n (events c (m ∷ ts))) (without_row k (padded n (events c (m ∷ ts))) m (all_rows 0 f k n (events c (m ∷ ts)))) ≡ all_rows 0 f k n (events c ts)
+      by true e = ap (λ (l : List ℕ). all_rows 0 f k n (c ∷ l)) (again (sym e))
+      by false e = without_row_rows n c m ts few f k sized (sym e)
 
 -- ---- the events from a minute on
 

@@ -1,5 +1,6 @@
 -- What taking events out does to an event table and to the rows beside it, as lists. Rows may have any width.
-use Rattle.std.specs.Prelude.{List, ◌++◌, ℕ, zero, suc, ◌+◌, ◌*◌, set, take, drop, replicate}
+use Rattle.std.specs.Prelude.{◌≡◌, List, ◌++◌, ℕ, zero, suc, ◌+◌, ◌*◌, ◌<◌, length, set, take, drop, replicate}
+use Rattle.units.specs.Limits.{most_links}
 use Rattle.timeline.specs.Events.{row_at}
 
 -- the first n figures dropped: those behind them move down, with zeros behind
@@ -30,3 +31,8 @@ events_from m es = set (drop_front (row_at es m) es) 0 m
 -- and the rows beside them: the first is the one that holds at m
 unfoldable pub rows_from : ℕ → List ℕ → ℕ → List ℕ → List ℕ
 rows_from width es m rows = drop_front (row_at es m * width) rows
+
+-- the event table has a place, and there is a row for each of its places
+pub record RowsSized (es rows : List ℕ) : Type 0 where
+  pub some : 0 < length es
+  pub rows_sized : length rows ≡ length es * most_links

@@ -4,7 +4,7 @@
 #![tactic(auto)]
 
 ghost use Rattle.std.specs.Prelude.{◌≡◌, [], ◌∷◌, ◌+◌, ◌≤◌, ◌<◌, length, take};
-ghost use Rattle.timeline.specs.Removal.{drop_front, without_event, without_row, events_from, rows_from};
+ghost use Rattle.timeline.specs.Removal.{drop_front, without_event, without_row, events_from, rows_from, RowsSized};
 ghost use Rattle.units.specs.Limits.{most_links};
 ghost use Rattle.units.specs.Lists.{put_piece};
 ghost use Rattle.timeline.specs.Events.{row_at};
@@ -84,9 +84,9 @@ fn drop_front(part: &mut [u32], count: usize)
 }
 
 // Takes the event that holds in a minute out with its row; the clock stays.
-#[tactic(auto, using(crate::proofs::Insertion::row_below))]
+#[tactic(auto, using(crate::proofs::Rows::row_inside))]
 pub fn remove_event(events: &mut [u32], rows: &mut [u32], minute: Minute)
-    requires { Room events.old rows.old 0 }
+    requires { RowsSized events.old rows.old }
     ensures { (events.new ≡ without_event minute.0 events.old)
         × (rows.new ≡ without_row most_links events.old minute.0 rows.old) }
 {
@@ -99,9 +99,9 @@ pub fn remove_event(events: &mut [u32], rows: &mut [u32], minute: Minute)
 }
 
 // Moves the clock on to a minute: the row that holds then is the first, and those before it are dropped.
-#[tactic(auto, using(crate::proofs::Insertion::row_below))]
+#[tactic(auto, using(crate::proofs::Rows::row_inside))]
 pub fn drop_before(events: &mut [u32], rows: &mut [u32], minute: Minute)
-    requires { Room events.old rows.old 0 }
+    requires { RowsSized events.old rows.old }
     ensures { (events.new ≡ events_from minute.0 events.old)
         × (rows.new ≡ rows_from most_links events.old minute.0 rows.old) }
 {

@@ -3,7 +3,7 @@ use Rattle.std.proofs.Common.{sym, ◌∙◌, ◌*◌, ◌<◌, length, arith}
 use Rattle.units.specs.Limits.{most_links}
 use Rattle.units.proofs.Pieces.{part_back}
 use Rattle.timeline.specs.Removal.{drop_front}
-use Rattle.timeline.proofs.Insertion.{row_fits}
+use Rattle.timeline.proofs.Rows.{row_inside}
 use Rattle.timeline.proofs.Removal.{event_stays, row_stays, event_out, row_out}
 use Rattle.timeline.proofs.remove_event.Goals as goal
 
@@ -18,7 +18,7 @@ returns c =
     let a = c.args in
     let row = c.row_at-row.result in
     let found = c.row_at-row.ensures in
-    let fits : row < length a.events.now = omega (arith, row_fits a.minute.0 c.requires) in (
+    let fits : row < length a.events.now = omega (arith, row_inside a.minute.0 a.events.now (omega arith)) in (
       part_back row a.events.now c.drop_front-2.new.part (drop_front 1) (omega arith) c.drop_front-2.ensures ∙ event_out a.minute.0 a.events.now row found (omega arith),
       part_back (row * most_links) a.rows.now c.drop_front.new.part (drop_front most_links) (omega arith) c.drop_front.ensures ∙ row_out a.minute.0 a.events.now row found most_links a.rows.now (omega arith),
     )
