@@ -2,4 +2,6 @@
 pub mod Updates
 pub mod InOrder
 pub mod Times
+pub mod GivenBack
+pub mod Moved
 pub mod Written

@@ -46,7 +46,7 @@ abbrev pub rows_left : Bool → List ℕ → ℕ → List ℕ → List ℕ
 rows_left needed es m t = cond needed t (without_row most_links es m t)
 
 -- the bandwidth of a span given back on a path, and then the two events dropped, where they are no times of p
-abbrev pub Released : Plain → ℕ → ℕ → ℕ → List ℕ → List ℕ → List ℕ → List ℕ → List ℕ → Type 0
-Released p start end bandwidth path es t es' t' =
+abbrev pub GivesBack : Plain → ℕ → ℕ → ℕ → List ℕ → List ℕ → List ℕ → List ℕ → List ℕ → Type 0
+GivesBack p start end bandwidth path es t es' t' =
     (es' ≡ events_left (member end (times_of p)) end (events_left (member start (times_of p)) start es))
     × (t' ≡ rows_left (member end (times_of p)) (events_left (member start (times_of p)) start es) end (rows_left (member start (times_of p)) es start (change_span (given bandwidth) es start end path t)))

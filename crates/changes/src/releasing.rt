@@ -7,7 +7,7 @@ ghost use Rattle.timeline.specs.Removal.{RowsSized};
 ghost use Rattle.rules.specs.Tables.{held_by};
 ghost use Rattle.book.specs.Places.{place_path};
 ghost use Rattle.rebuild.specs.Rebuilding.{release_of};
-ghost use Rattle.changes.specs.Updating.{times_of, events_left, rows_left, Released};
+ghost use Rattle.changes.specs.Updating.{times_of, events_left, rows_left, GivesBack};
 
 use book::booking_at;
 use free_table::{Interval, give_span};
@@ -54,7 +54,7 @@ pub(crate) fn give_back(
     requires sized { RowsSized events.old free.old }
     requires places { head.bookings * place_size ≤ length book.now }
     requires short_guard { head.guard.0 ≤ most_guard }
-    ensures { Released (held_by head book.now) b.booking.start.0 (release_of head b.booking) b.booking.bandwidth.0 (place_path b.booking) events.old free.old events.new free.new }
+    ensures { GivesBack (held_by head book.now) b.booking.start.0 (release_of head b.booking) b.booking.bandwidth.0 (place_path b.booking) events.old free.old events.new free.new }
 {
     let b = b.booking;
     let end = Minute(release(head, b.start, b.duration) as u32);

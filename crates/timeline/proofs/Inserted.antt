@@ -185,7 +185,7 @@ pub changes_more : {A : Type 0} {ts : List ℕ} {f : ℕ → A} (x : ℕ) → Ch
 changes_more x s e m h q = s e m h (λ y i. q y (Memᴰ.tail i))
 
 -- one time more makes no fewer events
-fewer : (c m : ℕ) (ts : List ℕ) → length (events c ts) ≤ length (events c (m ∷ ts))
+pub fewer : (c m : ℕ) (ts : List ℕ) → length (events c ts) ≤ length (events c (m ∷ ts))
 fewer c m ts = by (arrival c m ts)
   where
     by : Arrival c m ts → length (events c ts) ≤ length (events c (m ∷ ts))
