@@ -22,7 +22,7 @@ use Rattle.rebuild.specs.Rebuilding.{events_in, free_in}
 use Rattle.changes.specs.Updating.{times_of}
 
 module _ (p : Plain) (m : ℕ) where
-  stands : Booking → Bool
+  abbrev stands : Booking → Bool
   stands b = ltb m (until p b)
 
   -- what is taken from m on is taken by those that stand then
@@ -53,11 +53,9 @@ module _ (p : Plain) (m : ℕ) where
 
   module _ (n : ℕ) (links : List Link) (small : length links ≤ most_links) (few : length (events_of p) ≤ n) (onward : p.clock ≤ m) where
     pub events_moved : events_from m (events_in n p) ≡ events_in n (move_to m p)
-    unfolding stands
     events_moved = events_from_events n p.clock m (times_of p) (times_of (move_to m p)) few onward (times_standing p.bookings)
 
     pub free_moved : rows_from most_links (events_in n p) m (free_in n links p) ≡ free_in n links (move_to m p)
-    unfolding stands
     free_moved =
         table_from n (length links) (free links p) small p.clock (times_of p) (λ l h. free_changes links p l) (free links (move_to m p)) m (times_of (move_to m p)) few onward (times_standing p.bookings)
         (λ l x h a. ap (λ y. capacity links l - y) (taken_standing p.bookings l x a))

@@ -1,4 +1,5 @@
 -- The laws that the proofs of this crate share.
 pub mod Along
 pub mod Totals
+pub mod Ended
 pub mod Kept

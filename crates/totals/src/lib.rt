@@ -6,10 +6,10 @@ ghost use Rattle.std.specs.Prelude.{◌≡◌, true, ◌↔◌, length};
 ghost use Rattle.units.specs.Limits.{most_totals, most_bookings};
 ghost use Rattle.book.specs.Places.{place_path};
 ghost use Rattle.rules.specs.Tables.{held_by};
-ghost use Rattle.totals.specs.Totals.{place_work, more_along, less_along, totals_of, AtMost, WorkRight, CanTotal};
+ghost use Rattle.totals.specs.Totals.{place_work, more_along, less_along, without_ended, still_standing, totals_of, AtMost, WorkRight, CanTotal};
 
 use book::{Booking, booking_at};
-use units::{Head, TOTALS, work_of};
+use units::{Head, TOTALS, release, work_of};
 
 // Adds a booking's work to the total of each link of its path.
 #[tactic(auto, using(crate::proofs::Along::more_done))]
@@ -35,6 +35,29 @@ pub fn drop_work(totals: &mut [u64], booking: Booking)
     let work = work_of(booking.bandwidth, booking.duration);
     for &link in &booking.links[..booking.count as usize] {
         totals[link as usize] = totals[link as usize].saturating_sub(work.0);
+    }
+}
+
+// The same, where the booking has ended at the head's clock.
+fn drop_if_ended(head: Head, totals: &mut [u64], booking: Booking)
+    requires right { WorkRight booking }
+    requires sized { length totals.old ≡ most_totals }
+    ensures { totals.new ≡ without_ended head booking totals.old }
+{
+    if (head.clock.0 as u64) < release(head, booking.start, booking.duration) {
+        return;
+    }
+    drop_work(totals, booking);
+}
+
+// Drops the work of those bookings of the head that have ended at its clock.
+pub fn drop_ended_work(head: Head, book: &[u32], totals: &mut [u64])
+    requires can { CanTotal head book.now }
+    requires were { totals.old ≡ totals_of (held_by head book.now).bookings }
+    ensures { totals.new ≡ totals_of (still_standing head book.now) }
+{
+    for place in 0..head.bookings as usize {
+        drop_if_ended(head, totals, booking_at(book, place));
     }
 }
 
