@@ -2,6 +2,8 @@
 pub mod Updates
 pub mod InOrder
 pub mod Times
+pub mod Front
 pub mod GivenBack
 pub mod Moved
 pub mod Written
+pub mod Cancelled

@@ -36,7 +36,7 @@ use Rattle.totals.proofs.Totals.{more_totals, totals_most}
 use Rattle.totals.proofs.Kept.{table_is, work_right}
 
 -- a right head and four right tables
-tables_are : (links : List Link) (p : Plain) {head : Head} {es t book totals : List ℕ} → head ≡ head_of links p → es ≡ event_table p → t ≡ free_table links p → book ≡ book_table p → totals ≡ totals_table links p
+pub tables_are : (links : List Link) (p : Plain) {head : Head} {es t book totals : List ℕ} → head ≡ head_of links p → es ≡ event_table p → t ≡ free_table links p → book ≡ book_table p → totals ≡ totals_table links p
     → lent head es t book totals ≡ tables links p
 unfolding tables
 tables_are links p a b c d e = λ i. record { head = a i; events = b i; free = c i; book = d i; totals = e i }
@@ -89,6 +89,10 @@ module _ {links : List Link} {t : Tables} (right : Sized links t) {book : List �
   unfolding count_from flatten plain-book.by_number
   bare_tables guard = tables_are links (empty guard) refl refl refl is_book refl
 
+-- the totals of sound tables are those of their bookings
+pub totals_were : {links : List Link} {t : Tables} → Fine links t → t.totals ≡ totals_of (held t).bookings
+totals_were {links} {t} fine = totals_are fine ∙ sym (table_is links (held t) (sizes fine).links_right.1 (book_obeys fine).bookings_right)
+
 -- ---- one booking more
 
 -- the place of a granted booking
@@ -124,18 +128,15 @@ module _ {links : List Link} {t : Tables} (fine : Fine links t) {number : ℕ} {
   pub granted_work : WorkRight (granted_place number r start path)
   granted_work = work_right links (put_in (booked number r start path) (held t)) (sizes fine).links_right.1 (granted_place number r start path) (omega (arith, ap (λ q. q.count) g.path_is, short)) g.booking_right
 
-  totals_were : t.totals ≡ totals_of (held t).bookings
-  totals_were = totals_are fine ∙ sym (table_is links (held t) (sizes fine).links_right.1 (book_obeys fine).bookings_right)
-
   pub granted_few : AtMost most_bookings t.totals
   granted_few l =
-      rw totals_were
+      rw (totals_were fine)
       (omega (arith, totals_most (held t).bookings (all_work_fits links (held t) (held t).bookings (book_obeys fine).bookings_right) l, (book_obeys fine).not_too_many))
 
   -- and what it gives
   totals_entered : more_along (place_work (granted_place number r start path)) (place_path (granted_place number r start path)) t.totals ≡ totals_table links (put_in (booked number r start path) (held t))
   totals_entered =
-      ap (more_along (place_work (granted_place number r start path)) (place_path (granted_place number r start path))) totals_were
+      ap (more_along (place_work (granted_place number r start path)) (place_path (granted_place number r start path))) (totals_were fine)
       ∙ more_totals (granted_place number r start path) granted_work (held t).bookings
       ∙ table_is links (put_in (booked number r start path) (held t)) (sizes fine).links_right.1 all_right
     where

@@ -19,7 +19,8 @@ use path_search::Path;
 use places::{drop_ended, find, remove_place, slot};
 use rebuild::{RightBooking, add_booking, rebuild};
 use releasing::give_back;
-use totals::{add_work, drop_work, write_totals};
+use timeline::drop_before;
+use totals::{add_work, drop_ended_work, drop_work, write_totals};
 use units::{Duration, Head, Minute, PLACE, ROW, Request};
 
 // Writes a head, and the events, free figures and totals anew from it and the book.
@@ -80,13 +81,19 @@ pub fn take_out(desk: &mut Desk<'_>, number: u32)
 pub fn advance(desk: &mut Desk<'_>, minute: Minute)
     requires fine { Fine desk.old.links.now (tables_of desk.old) }
     requires in_range { minute.0 ≤ last_minute }
+    requires onward { desk.old.head.now.clock.0 ≤ minute.0 }
     ensures loans { SameLoans desk.old desk.new }
     ensures tables { tables_of desk.new ≡ tables desk.old.links.now (move_to minute.0 (held (tables_of desk.old))) }
 {
     let mut head = *desk.head;
+    let rows = 1 + 2 * head.bookings as usize;
+    let events = &mut desk.events[..rows];
+    let free = &mut desk.free[..rows * ROW];
+    drop_before(events, free, minute);
     head.clock = minute;
+    drop_ended_work(head, desk.book, desk.totals);
     head.bookings = drop_ended(head, desk.book, PLACE) as u32;
-    rebuild_desk(desk, head);
+    *desk.head = head;
 }
 
 // Enters an accepted booking: its place in the book, its events, its bandwidth taken from each link of its path, and its work
