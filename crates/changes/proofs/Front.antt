@@ -4,7 +4,7 @@ use mathlib.Core.List.{List, ◌++◌, map, flatten, append_assoc}
 use Prim.Native.Nat.{ℕ, ◌+◌, ◌-◌, ◌*◌, ◌≤◌}
 use native.Mathlib.Omega.{arith}
 use lib.ListN.{length, take, drop, replicate, replicate-append-replicate}
-use lib.Seq.{take-append-add, drop-append-add}
+use lib.Seq.{take-append-add, drop-append-add, length-take-le}
 use Rattle.std.proofs.lemmas.List.{take-replicate, drop-replicate}
 use Rattle.units.specs.declared.Link.{Link}
 use Rattle.units.specs.Limits.{most_links, most_events}
@@ -13,7 +13,7 @@ use Rattle.free_table.specs.Figures.{row}
 use Rattle.free_table.proofs.Figures.{length_table_rows}
 use Rattle.rules.specs.Plain.{Plain, free}
 use Rattle.rules.specs.Tables.{Tables, held, events_of, event_table, free_table, Fine}
-use Rattle.rules.proofs.Fine.{sizes, events_are, free_are}
+use Rattle.rules.proofs.Fine.{sizes, few_bookings, events_are, free_are}
 use Rattle.rebuild.specs.Rebuilding.{events_in, free_in}
 
 module _ (n all : ℕ) (l : List ℕ) (few : length l ≤ n) (fits : n ≤ all) where
@@ -38,6 +38,24 @@ module _ (n all : ℕ) (l : List ℕ) (few : length l ≤ n) (fits : n ≤ all) 
       ∙ ap (λ (z : List ℕ). after ++ z) (replicate-append-replicate (n - length after) (all - n) 0 ∙ ap (λ k. replicate k 0) count)
 
 -- ---- the first rows of sound tables
+
+-- they can be lent
+module _ {links : List Link} {t : Tables} (fine : Fine links t) (n : ℕ) (fits : n ≤ most_events) where
+  pub events_inside : n ≤ length t.events
+  events_inside = omega (arith, (sizes fine).events_right)
+
+  pub free_inside : n * most_links ≤ length t.free
+  free_inside = omega (arith, (sizes fine).free_right)
+
+  pub events_lent : n ≡ length (take n t.events)
+  events_lent = sym (length-take-le n t.events events_inside)
+
+  pub free_lent : n * most_links ≡ length (take (n * most_links) t.free)
+  free_lent = sym (length-take-le (n * most_links) t.free free_inside)
+
+-- the rows that the bookings of a head can use
+pub rows_few : {links : List Link} {t : Tables} → Fine links t → 1 + 2 * t.head.bookings ≤ most_events
+rows_few fine = omega (arith, few_bookings fine)
 
 -- n rows, in which every event has one
 module _ {links : List Link} {t : Tables} (fine : Fine links t) (n : ℕ) (few : length (events_of (held t)) ≤ n) (fits : n ≤ most_events) where

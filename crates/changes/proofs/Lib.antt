@@ -7,3 +7,4 @@ pub mod GivenBack
 pub mod Moved
 pub mod Written
 pub mod Cancelled
+pub mod MovedOn

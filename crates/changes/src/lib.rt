@@ -91,8 +91,9 @@ pub fn advance(desk: &mut Desk<'_>, minute: Minute)
     let free = &mut desk.free[..rows * ROW];
     drop_before(events, free, minute);
     head.clock = minute;
-    drop_ended_work(head, desk.book, desk.totals);
-    head.bookings = drop_ended(head, desk.book, PLACE) as u32;
+    let book = &mut *desk.book;
+    drop_ended_work(head, book, desk.totals);
+    head.bookings = drop_ended(head, book, PLACE) as u32;
     *desk.head = head;
 }
 

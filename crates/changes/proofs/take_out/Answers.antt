@@ -2,7 +2,6 @@
 use Rattle.std.proofs.Common.{◌≡◌, refl, sym, ◌∙◌, ◌+◌, ◌-◌, ◌*◌, ◌≤◌, length, take, ap, subst, arith, ℕ}
 use mathlib.Core.Bool.{false≢true}
 use Rattle.units.specs.Limits.{place_size, most_links}
-use lib.Seq.{length-take-le}
 use Rattle.book.specs.Places.{booking_in, place_path}
 use Rattle.rebuild.specs.Rebuilding.{release_of, PlaceRight}
 use Rattle.totals.specs.Totals.{place_work, less_along, WorkRight}
@@ -12,6 +11,7 @@ use Rattle.changes.specs.Updating.{with_count, GivesBack}
 use Rattle.rules.proofs.Standing.{stands_found}
 use Rattle.rules.proofs.Fine.{sizes, places_fit, book_obeys, few_bookings}
 use Rattle.changes.proofs.InOrder.{Released, released}
+use Rattle.changes.proofs.Front.{rows_few, events_inside, events_lent, free_inside, free_lent}
 use Rattle.changes.proofs.Cancelled.{place_is_right, work_is_right, cancelled}
 use Rattle.changes.proofs.take_out.Goals as goal
 use Rattle.changes.proofs.take_out.Goals.{In-Some}
@@ -36,16 +36,16 @@ pub overflow_sub-head : goal.overflow_sub-head
 overflow_sub-head c = omega (arith, (gone (goal.at.overflow_sub-head c).In-Some).inside)
 
 pub slice_bounds-events-end : goal.slice_bounds-events-end
-slice_bounds-events-end c = omega (arith, few_bookings c.requires.fine, (sizes c.requires.fine).events_right)
-
-pub slice_bounds-free-end : goal.slice_bounds-free-end
-slice_bounds-free-end c = omega (arith, few_bookings c.requires.fine, (sizes c.requires.fine).free_right)
+slice_bounds-events-end c = let fine = c.requires.fine in events_inside fine (1 + 2 * c.args.desk.now.head.now.bookings) (rows_few fine)
 
 pub slice_bounds-events-end-2 : goal.slice_bounds-events-end-2
-slice_bounds-events-end-2 c = let d = c.args.desk.now in sym (length-take-le (1 + 2 * d.head.now.bookings) d.events.now (omega (arith, few_bookings c.requires.fine, (sizes c.requires.fine).events_right)))
+slice_bounds-events-end-2 c = let fine = c.requires.fine in events_lent fine (1 + 2 * c.args.desk.now.head.now.bookings) (rows_few fine)
+
+pub slice_bounds-free-end : goal.slice_bounds-free-end
+slice_bounds-free-end c = let fine = c.requires.fine in free_inside fine (1 + 2 * c.args.desk.now.head.now.bookings) (rows_few fine)
 
 pub slice_bounds-free-end-2 : goal.slice_bounds-free-end-2
-slice_bounds-free-end-2 c = let d = c.args.desk.now in sym (length-take-le ((1 + 2 * d.head.now.bookings) * most_links) d.free.now (omega (arith, few_bookings c.requires.fine, (sizes c.requires.fine).free_right)))
+slice_bounds-free-end-2 c = let fine = c.requires.fine in free_lent fine (1 + 2 * c.args.desk.now.head.now.bookings) (rows_few fine)
 
 pub invariant_of-give_back : goal.invariant_of-give_back
 invariant_of-give_back c =
