@@ -8,6 +8,10 @@ use Rattle.timeline.specs.Events.{row_at}
 abbrev pub given : ℕ → ℕ → ℕ
 given bandwidth x = (x + bandwidth) % 2 ^ 32
 
+-- and taken; what is too small becomes zero
+abbrev pub taken : ℕ → ℕ → ℕ
+taken bandwidth x = x - bandwidth
+
 -- g of link l's figure in each of the first n rows
 unfoldable pub change_rows : (ℕ → ℕ) → ℕ → ℕ → List ℕ → List ℕ
 change_rows g zero l t = t

@@ -15,7 +15,7 @@ mod view;
 
 pub use interval::Interval;
 pub use missing::Missing;
-pub use spans::give_span;
+pub use spans::{give_span, take_span};
 use timeline::row_at;
 use units::{Bandwidth, LinkNumber, Minute, ROW};
 pub use view::FreeTable;
