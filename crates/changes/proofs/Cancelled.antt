@@ -22,14 +22,15 @@ use Rattle.rules.specs.Sound.{BookingRight, Obeys}
 use Rattle.rules.proofs.Obeys.{right_in, held_count, events_permuted, free_permuted, sold_permuted, obeys_permuted}
 use Rattle.rules.proofs.Step.{obeys_take_out}
 use Rattle.rules.proofs.Fine.{sizes, book_obeys, few_bookings, links_are}
-use Rattle.rebuild.specs.Rebuilding.{release_of, PlaceRight, events_in, free_in}
-use Rattle.rebuild.proofs.Added.{CanAdd, place_right, events_few}
+use Rattle.changes.specs.Holding.{release_of, PlaceRight, events_in, free_in}
 use Rattle.totals.specs.Totals.{place_work, less_along, totals_of, WorkRight}
 use Rattle.totals.proofs.Totals.{less_totals}
 use Rattle.totals.proofs.Kept.{table_is, work_right}
-use Rattle.changes.specs.Updating.{with_count, GivesBack}
+use Rattle.changes.specs.Updating.{with_count}
+use Rattle.changes.specs.Holding.{GivesBack}
 use Rattle.changes.proofs.InOrder.{Released, released, counts_right, held_part}
-use Rattle.changes.proofs.Front.{events_front, free_front, events_whole, free_whole}
+use Rattle.changes.proofs.Held.{place_right}
+use Rattle.changes.proofs.Front.{events_few, events_front, free_front, events_whole, free_whole}
 use Rattle.changes.proofs.GivenBack.{given_back}
 use Rattle.changes.proofs.Written.{head_is, tables_are, totals_were}
 
@@ -78,12 +79,7 @@ module _ {links : List Link} {t : Tables} (fine : Fine links t) (number i : ℕ)
 
   -- what `give_back` and `drop_work` ask
   pub place_is_right : PlaceRight place
-  place_is_right = place_right (3 + 2 * length left.bookings) links left place (record {
-    few_links = few_links;
-    room = omega arith;
-    right = right_in links (put_in b left) left b right.still_stands right;
-    count_right = counts_right fine i r.inside;
-  })
+  place_is_right = place_right links (put_in b left) place few_links (counts_right fine i r.inside) right
 
   pub work_is_right : WorkRight place
   work_is_right = work_right links (put_in b left) few_links place (counts_right fine i r.inside) right

@@ -1,5 +1,5 @@
 -- The first rows of a table, lent and handed back: behind the used ones there are zeros, before and after.
-use mathlib.Core.Path.{◌≡◌, sym, ap, ap₂, ◌∙◌}
+use mathlib.Core.Path.{◌≡◌, refl, sym, ap, ap₂, ◌∙◌}
 use mathlib.Core.List.{List, ◌++◌, map, flatten, append_assoc}
 use Prim.Native.Nat.{ℕ, ◌+◌, ◌-◌, ◌*◌, ◌≤◌}
 use native.Mathlib.Omega.{arith}
@@ -9,12 +9,14 @@ use Rattle.std.proofs.lemmas.List.{take-replicate, drop-replicate}
 use Rattle.units.specs.declared.Link.{Link}
 use Rattle.units.specs.Limits.{most_links, most_events}
 use Rattle.units.specs.Lists.{padded}
+use Rattle.units.proofs.Padded.{rows, length_rows}
+use Rattle.timeline.proofs.Events.{later_length}
 use Rattle.free_table.specs.Figures.{row}
 use Rattle.free_table.proofs.Figures.{length_table_rows}
-use Rattle.rules.specs.Plain.{Plain, free}
+use Rattle.rules.specs.Plain.{Plain, times, free}
 use Rattle.rules.specs.Tables.{Tables, held, events_of, event_table, free_table, Fine}
 use Rattle.rules.proofs.Fine.{sizes, few_bookings, events_are, free_are}
-use Rattle.rebuild.specs.Rebuilding.{events_in, free_in}
+use Rattle.changes.specs.Holding.{events_in, free_in, times_of}
 
 module _ (n all : ℕ) (l : List ℕ) (few : length l ≤ n) (fits : n ≤ all) where
   used : n ≡ length l + (n - length l)
@@ -38,6 +40,13 @@ module _ (n all : ℕ) (l : List ℕ) (few : length l ≤ n) (fits : n ≤ all) 
       ∙ ap (λ (z : List ℕ). after ++ z) (replicate-append-replicate (n - length after) (all - n) 0 ∙ ap (λ k. replicate k 0) count)
 
 -- ---- the first rows of sound tables
+
+-- no more events than the clock and two for each booking
+pub events_few : (p : Plain) → length (events_of p) ≤ 1 + 2 * length p.bookings
+events_few p =
+    let two = length_rows (times p) 2 p.bookings (rows (times p) 2 (λ b. refl) p.bookings) in
+    let few = later_length p.clock (times_of p) in
+    omega arith
 
 -- they can be lent
 module _ {links : List Link} {t : Tables} (fine : Fine links t) (n : ℕ) (fits : n ≤ most_events) where

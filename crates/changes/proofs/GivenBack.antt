@@ -29,8 +29,8 @@ use Rattle.rules.specs.Sound.{LinkRight, BookingRight}
 use Rattle.rules.specs.Desk.{NotOversold}
 use Rattle.rules.proofs.Tests.{link_right}
 use Rattle.rules.proofs.Uses.{taken_put_in}
-use Rattle.rebuild.specs.Rebuilding.{events_in, free_in}
-use Rattle.changes.specs.Updating.{times_of, events_left, rows_left, GivesBack}
+use Rattle.changes.specs.Holding.{events_in, free_in}
+use Rattle.changes.specs.Holding.{times_of, events_left, rows_left, GivesBack}
 
 module _ (n : ℕ) (links : List Link) (p : Plain) (b : Booking) (small : length links ≤ most_links) (few : length (events_of (put_in b p)) ≤ n)
     (right : BookingRight links (put_in b p) b) (within : NotOversold links (put_in b p)) (capacities : All LinkRight links) where

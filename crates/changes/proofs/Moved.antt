@@ -18,8 +18,8 @@ use Rattle.rules.specs.Plain.{Booking, Plain, until, uses, times, taken, capacit
 use Rattle.rules.specs.Calls.{move_to}
 use Rattle.rules.specs.Tables.{events_of}
 use Rattle.rules.proofs.Uses.{uses_behind, free_changes}
-use Rattle.rebuild.specs.Rebuilding.{events_in, free_in}
-use Rattle.changes.specs.Updating.{times_of}
+use Rattle.changes.specs.Holding.{events_in, free_in}
+use Rattle.changes.specs.Holding.{times_of}
 
 module _ (p : Plain) (m : ℕ) where
   abbrev stands : Booking → Bool

@@ -19,13 +19,12 @@ use Rattle.rules.specs.Sound.{BookingRight, Obeys}
 use Rattle.rules.proofs.Obeys.{held_count}
 use Rattle.rules.proofs.Step.{obeys_move_to}
 use Rattle.rules.proofs.Fine.{sizes, book_obeys, few_bookings, links_are}
-use Rattle.rebuild.specs.Rebuilding.{events_in, free_in}
-use Rattle.rebuild.proofs.Added.{events_few}
+use Rattle.changes.specs.Holding.{events_in, free_in}
 use Rattle.totals.specs.Totals.{totals_of, CanTotal}
 use Rattle.totals.proofs.Kept.{table_is, work_right}
 use Rattle.changes.specs.Updating.{with_clock, with_count}
 use Rattle.changes.proofs.InOrder.{counts_right}
-use Rattle.changes.proofs.Front.{events_front, free_front, events_whole, free_whole}
+use Rattle.changes.proofs.Front.{events_few, events_front, free_front, events_whole, free_whole}
 use Rattle.changes.proofs.Moved.{events_moved, free_moved}
 use Rattle.changes.proofs.Written.{head_is, tables_are}
 

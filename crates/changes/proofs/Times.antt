@@ -12,8 +12,8 @@ use Rattle.book.specs.Places.{booking_in}
 use Rattle.rules.specs.Plain.{times}
 use Rattle.rules.specs.Tables.{held_by}
 use Rattle.rules.proofs.Standing.{bookings_from, all_from, none_from, next_from}
-use Rattle.rebuild.specs.Rebuilding.{release_of}
-use Rattle.changes.specs.Updating.{times_of}
+use Rattle.changes.specs.Holding.{release_of}
+use Rattle.changes.specs.Holding.{times_of}
 
 -- those of the places from i on
 abbrev pub times_from : Head → List ℕ → ℕ → List ℕ

@@ -3,11 +3,12 @@ use Rattle.std.proofs.Common.{◌≡◌, refl, sym, ◌∙◌, ◌+◌, ◌-◌,
 use mathlib.Core.Bool.{false≢true}
 use Rattle.units.specs.Limits.{place_size, most_links}
 use Rattle.book.specs.Places.{booking_in, place_path}
-use Rattle.rebuild.specs.Rebuilding.{release_of, PlaceRight}
+use Rattle.changes.specs.Holding.{release_of, PlaceRight}
 use Rattle.totals.specs.Totals.{place_work, less_along, WorkRight}
 use Rattle.lent.specs.Lent.{tables_of}
 use Rattle.rules.specs.Tables.{held_by}
-use Rattle.changes.specs.Updating.{with_count, GivesBack}
+use Rattle.changes.specs.Updating.{with_count}
+use Rattle.changes.specs.Holding.{GivesBack}
 use Rattle.rules.proofs.Standing.{stands_found}
 use Rattle.rules.proofs.Fine.{sizes, places_fit, book_obeys, few_bookings}
 use Rattle.changes.proofs.InOrder.{Released, released}

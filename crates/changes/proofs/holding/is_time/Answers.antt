@@ -4,7 +4,7 @@ use lib.Dec.{eqb}
 use Rattle.std.proofs.Common.{◌≡◌, ap, ◌∙◌, arith, ◌*◌, ◌+◌, ◌≤◌, length}
 use Rattle.units.specs.Lists.{member}
 use Rattle.changes.proofs.Times.{times_from, times_all, times_none, times_before}
-use Rattle.changes.proofs.releasing.is_time.Goals as goal
+use Rattle.changes.proofs.holding.is_time.Goals as goal
 
 pub loop-place-init : goal.loop-place-init
 loop-place-init c = let a = c.args in times_none a.head a.book.now a.minute.0

@@ -1,19 +1,43 @@
-// What a booking held comes back when it is cancelled: its bandwidth, and its events where no other booking needs them.
+// What a booking holds: its events and its bandwidth. They are put in and taken when it is entered; they come back when it is
+// cancelled, an event only where no other booking needs it.
 
-ghost use Rattle.std.specs.Prelude.{◌≡◌, ◌*◌, ◌≤◌, ◌<◌, length};
-ghost use Rattle.units.specs.Limits.{most_guard, most_links, place_size};
+ghost use Rattle.std.specs.Prelude.{◌≡◌, ◌*◌, ◌≤◌, length};
+ghost use Rattle.units.specs.Limits.{most_guard, place_size};
 ghost use Rattle.units.specs.Lists.{member};
+ghost use Rattle.timeline.specs.Insertion.{Room};
 ghost use Rattle.timeline.specs.Removal.{RowsSized};
 ghost use Rattle.rules.specs.Tables.{held_by};
 ghost use Rattle.book.specs.Places.{place_path};
-ghost use Rattle.rebuild.specs.Rebuilding.{release_of};
-ghost use Rattle.changes.specs.Updating.{times_of, events_left, rows_left, GivesBack};
+ghost use Rattle.changes.specs.Holding.{release_of, times_of, events_left, rows_left, Holds, GivesBack};
 
+use crate::right::RightBooking;
 use book::booking_at;
-use free_table::{Interval, give_span};
-use rebuild::RightBooking;
-use timeline::remove_event;
+use free_table::{Interval, give_span, take_span};
+use timeline::{insert_span, remove_event};
 use units::{Head, Minute, release};
+
+// The minutes in which a booking holds its links.
+fn interval(head: Head, b: RightBooking) -> Interval
+    requires { head.guard.0 ≤ most_guard }
+    ensures start { result.start ≡ b.booking.start }
+    ensures end { result.end.0 ≡ release_of head b.booking }
+{
+    let start = b.booking.start;
+    let end = Minute(release(head, start, b.booking.duration) as u32);
+    Interval { start, end }
+}
+
+// Puts the events of a booking in and takes its bandwidth.
+pub(crate) fn hold(head: Head, events: &mut [u32], free: &mut [u32], b: RightBooking)
+    requires room { Room events.old free.old 2 }
+    requires short_guard { head.guard.0 ≤ most_guard }
+    ensures { Holds b.booking.start.0 (release_of head b.booking) b.booking.bandwidth.0 (place_path b.booking) events.old free.old events.new free.new }
+{
+    let minutes = interval(head, b);
+    let b = b.booking;
+    insert_span(events, free, minutes.start, minutes.end);
+    take_span(events, free, minutes, &b.links[..b.count as usize], b.bandwidth);
+}
 
 // Whether a booking of the book starts or releases its links at a minute.
 fn is_time(head: Head, book: &[u32], minute: Minute) -> bool
@@ -56,13 +80,9 @@ pub(crate) fn give_back(
     requires short_guard { head.guard.0 ≤ most_guard }
     ensures { GivesBack (held_by head book.now) b.booking.start.0 (release_of head b.booking) b.booking.bandwidth.0 (place_path b.booking) events.old free.old events.new free.new }
 {
+    let minutes = interval(head, b);
     let b = b.booking;
-    let end = Minute(release(head, b.start, b.duration) as u32);
-    let minutes = Interval {
-        start: b.start,
-        end,
-    };
     give_span(events, free, minutes, &b.links[..b.count as usize], b.bandwidth);
-    drop_event(head, events, free, book, b.start);
-    drop_event(head, events, free, book, end);
+    drop_event(head, events, free, book, minutes.start);
+    drop_event(head, events, free, book, minutes.end);
 }
