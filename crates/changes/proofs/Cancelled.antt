@@ -1,34 +1,32 @@
 -- The tables after a cancellation: what the booking held is given back in the first rows, its place is taken out and its work dropped.
-use mathlib.Core.Path.{◌≡◌, refl, sym, ap, ap₂, ◌∙◌, subst}
-use mathlib.Core.List.Permᴰ
-use mathlib.Core.List.{List, ◌∷◌, ◌++◌, map, Permᴰ}
-use Prim.Native.Nat.{ℕ, ◌+◌, ◌-◌, ◌*◌, ◌≤◌, ◌<◌}
+use mathlib.Core.Path.{◌≡◌, refl, ap, ap₂, ◌∙◌, subst}
+use mathlib.Core.List.{List, ◌++◌, map}
+use Prim.Native.Nat.{ℕ, ◌+◌, ◌-◌, ◌*◌, ◌≤◌}
 use native.Mathlib.Omega.{arith}
 use lib.Dec.{eqb}
 use mathlib.Core.Bool.{not}
 use lib.ListN.{length, take, drop}
-use Rattle.std.specs.Prelude.{Option, Some}
 use Rattle.units.specs.declared.Link.{Link}
 use Rattle.units.specs.Limits.{most_links, most_events, most_totals, place_size}
-use Rattle.units.specs.Lists.{count_from, padded, All}
+use Rattle.units.specs.Lists.{count_from, padded}
 use Rattle.free_table.specs.Figures.{table}
-use Rattle.places.specs.Places.{find, without_place}
+use Rattle.places.specs.Places.{without_place}
 use Rattle.book.specs.declared.Booking.{Booking as Place}
 use Rattle.book.specs.Places.{booking_in, place_path}
-use Rattle.rules.specs.Plain.{Booking, Plain, until, free, sold_by}
+use Rattle.rules.specs.Plain.{Booking, Plain, free}
 use Rattle.rules.specs.Calls.{put_in, take_out}
 use Rattle.rules.specs.Tables.{Tables, tables, held, held_by, head_of, booking_at, events_of, book_table, totals_table, lent, Fine}
 use Rattle.rules.specs.Sound.{BookingRight, Obeys}
-use Rattle.rules.proofs.Obeys.{right_in, held_count, events_permuted, free_permuted, sold_permuted, obeys_permuted}
+use Rattle.rules.proofs.Obeys.{held_count, events_permuted, free_permuted, sold_permuted, obeys_permuted}
 use Rattle.rules.proofs.Step.{obeys_take_out}
 use Rattle.rules.proofs.Fine.{sizes, book_obeys, few_bookings, links_are}
 use Rattle.changes.specs.Holding.{release_of, PlaceRight, events_in, free_in}
-use Rattle.totals.specs.Totals.{place_work, less_along, totals_of, WorkRight}
+use Rattle.totals.specs.Totals.{place_work, less_along, WorkRight}
 use Rattle.totals.proofs.Totals.{less_totals}
 use Rattle.totals.proofs.Kept.{table_is, work_right}
 use Rattle.changes.specs.Updating.{with_count}
 use Rattle.changes.specs.Holding.{GivesBack}
-use Rattle.changes.proofs.InOrder.{Released, released, counts_right, held_part}
+use Rattle.changes.proofs.InOrder.{Released, counts_right, held_part}
 use Rattle.changes.proofs.Held.{place_right}
 use Rattle.changes.proofs.Front.{events_few, events_front, free_front, events_whole, free_whole}
 use Rattle.changes.proofs.GivenBack.{given_back}
@@ -87,7 +85,7 @@ module _ {links : List Link} {t : Tables} (fine : Fine links t) (number i : ℕ)
   -- what is written
   module _ {book es fs totals : List ℕ} (took : book ≡ without_place place_size i t.book)
       (gave : let head = with_count t.head (t.head.bookings - 1) in
-          GivesBack (held_by head book) place.start.0 (release_of head place) place.bandwidth.0 (place_path place) (take rows t.events) (take (rows * most_links) t.free) es fs)
+      GivesBack (held_by head book) place.start.0 (release_of head place) place.bandwidth.0 (place_path place) (take rows t.events) (take (rows * most_links) t.free) es fs)
       (dropped : totals ≡ less_along (place_work place) (place_path place) t.totals) where
     one_less : with_count t.head (t.head.bookings - 1) ≡ head_of links left
     one_less = head_is links left refl (links_are fine) r.count_is refl

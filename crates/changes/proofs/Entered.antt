@@ -1,34 +1,29 @@
 -- The tables after a booking is entered: it holds its events and its bandwidth in the first rows, and stands in the book and the totals.
-use mathlib.Core.Path.{◌≡◌, refl, sym, ap, ap₂, ◌∙◌}
-use mathlib.Core.List.{List, ◌++◌, flatten}
-use mathlib.Core.Bool.{Bool}
+use mathlib.Core.Path.{◌≡◌, refl, ap, ◌∙◌}
+use mathlib.Core.List.{List, ◌++◌}
 use Prim.Native.Nat.{ℕ, ◌+◌, ◌*◌, ◌≤◌, ◌<◌}
 use native.Mathlib.Omega.{arith}
-use lib.ListN.{length, take, drop, replicate, length-replicate}
+use lib.ListN.{length, take, drop}
 use Rattle.units.specs.declared.Link.{Link}
-use Rattle.units.specs.declared.Head.{Head}
 use Rattle.units.specs.declared.Minute.{Minute}
 use Rattle.units.specs.declared.Request.{Request}
-use Rattle.units.specs.Limits.{most_links, most_bookings, most_events, most_hops, most_guard, place_size}
-use Rattle.units.specs.Lists.{count_from, All}
+use Rattle.units.specs.Limits.{most_links, most_bookings, most_events, most_hops, place_size}
+use Rattle.units.specs.Lists.{All}
 use Rattle.timeline.specs.Insertion.{Room}
 use Rattle.path_search.specs.declared.Path.{Path}
 use Rattle.places.specs.Places.{slot}
 use Rattle.book.specs.declared.Booking.{Booking as Place}
 use Rattle.book.specs.Places.{figures, with_booking, place_path}
-use Rattle.plain_book.specs.Bookings as plain-book
-use Rattle.rules.specs.Plain.{Plain, empty}
 use Rattle.rules.specs.Calls.{put_in}
-use Rattle.rules.specs.Tables.{Tables, tables, held, place, head_of, held_by, event_table, free_table, book_table, totals_table, lent, Fine}
-use Rattle.rules.specs.Sound.{BookingRight, Obeys}
+use Rattle.rules.specs.Tables.{Tables, tables, held, place, head_of, totals_table, lent, Fine}
+use Rattle.rules.specs.Sound.{BookingRight}
 use Rattle.changes.specs.Holding.{release_of, PlaceRight, Holds}
 use Rattle.changes.specs.Updating.{with_count, booked, Grantable}
-use Rattle.rules.proofs.Obeys.{held_count, right_in, all_right_in}
-use Rattle.rules.proofs.Tests.{Sized}
+use Rattle.rules.proofs.Obeys.{held_count, all_right_in}
 use Rattle.changes.proofs.InOrder.{slot_inside, book_entered}
-use Rattle.rules.proofs.Fine.{sizes, book_obeys, links_are, events_are, free_are, totals_are}
+use Rattle.rules.proofs.Fine.{sizes, book_obeys, links_are}
 use Rattle.rules.proofs.Totals.{all_work_fits}
-use Rattle.totals.specs.Totals.{place_work, more_along, totals_of, AtMost, WorkRight}
+use Rattle.totals.specs.Totals.{place_work, more_along, AtMost, WorkRight}
 use Rattle.totals.proofs.Totals.{more_totals, totals_most}
 use Rattle.totals.proofs.Kept.{table_is, work_right}
 use Rattle.rules.specs.Tables.{events_of}
@@ -106,8 +101,8 @@ module _ {links : List Link} {t : Tables} (fine : Fine links t) {number : ℕ} {
       → lent (with_count t.head (t.head.bookings + 1)) (es ++ drop rows t.events) (fs ++ drop (rows * most_links) t.free) book totals ≡ tables links (put_in (booked number r start path) (held t))
   entered_tables {es} {fs} h b d =
       let more =
-          held_now rows links (held t) (booked number r start path) few_links enough g.booking_right es fs
-          (rw (events_front fine rows front fits, free_front fine rows front fits) at h) in
+      held_now rows links (held t) (booked number r start path) few_links enough g.booking_right es fs
+      (rw (events_front fine rows front fits, free_front fine rows front fits) at h) in
       tables_are links (put_in (booked number r start path) (held t)) one_more
       (events_whole fine rows front fits (put_in (booked number r start path) (held t)) enough more.0)
       (free_whole fine rows front fits (put_in (booked number r start path) (held t)) enough more.1)

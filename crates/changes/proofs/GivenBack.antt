@@ -1,13 +1,11 @@
 -- Giving back what a booking held makes the right tables of the plain book with it those of the plain book without it. No link is
 -- oversold with it, so what comes back fits in the capacity.
 use mathlib.Core.Path.{◌≡◌, refl, sym, ap, ap₂, ◌∙◌}
-use mathlib.Core.List.Memᴰ
-use mathlib.Core.List.{List, [], ◌∷◌, map, flatten, Memᴰ}
+use mathlib.Core.List.{List, ◌∷◌, flatten, Memᴰ}
 use mathlib.Core.Bool.{Bool, true, false, ◌||◌}
-use Prim.Native.Nat.{ℕ, ◌+◌, ◌-◌, ◌*◌, ◌%◌, ◌^◌, ◌≤◌, ◌<◌}
+use Prim.Native.Nat.{ℕ, ◌+◌, ◌-◌, ◌%◌, ◌^◌, ◌≤◌, ◌<◌}
 use native.Mathlib.Omega.{arith}
 use Rattle.std.proofs.Math.Nat.{mod-eq_of_lt}
-use lib.Dec.{eqb}
 use lib.ListN.{length}
 use borrow.Author.Tests.{ne_eqb}
 use Rattle.units.specs.declared.Link.{Link}
@@ -22,7 +20,7 @@ use Rattle.free_table.specs.Spans.{given, change_span, where_so, changed}
 use Rattle.free_table.proofs.Figures.{length_row}
 use Rattle.free_table.proofs.Changed.{change_span_table}
 use Rattle.path_search.proofs.Paths.{path_inside, path_distinct}
-use Rattle.rules.specs.Plain.{Booking, Plain, until, stretch, uses, taken, capacity, graph, free}
+use Rattle.rules.specs.Plain.{Booking, Plain, until, stretch, taken, capacity, graph, free}
 use Rattle.rules.specs.Calls.{put_in}
 use Rattle.rules.specs.Tables.{events_of}
 use Rattle.rules.specs.Sound.{LinkRight, BookingRight}
@@ -100,6 +98,6 @@ module _ (n : ℕ) (links : List Link) (p : Plain) (b : Booking) (small : length
   given_back es t h = (
     h.0 ∙ ap (events_left (member end ts) end) start_dropped ∙ end_dropped,
     h.1
-    ∙ ap₂ (λ (es t : List ℕ). rows_left (member end ts) es end t) start_dropped (ap (rows_left (member start ts) (events_at (start ∷ end ∷ ts)) start) given_back_rows ∙ start_row_dropped)
-    ∙ end_row_dropped,
+        ∙ ap₂ (λ (es t : List ℕ). rows_left (member end ts) es end t) start_dropped (ap (rows_left (member start ts) (events_at (start ∷ end ∷ ts)) start) given_back_rows ∙ start_row_dropped)
+        ∙ end_row_dropped,
   )

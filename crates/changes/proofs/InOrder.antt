@@ -132,9 +132,9 @@ module _ {links : List Link} {t : Tables} (fine : Fine links t) where
             count_is = omega (arith, ap length rest, length-append xs ys);
             among =
                 let one : booking_at t.book i ≡ b =
-                    sym (booking_read i (omega arith) b)
-                    ∙ ap₂ (λ (bs : List Booking) j. get_or bs j b) split (omega (arith, at) ∙ refl)
-                    ∙ get_or-append-add xs (b ∷ ys) 0 b in
+                sym (booking_read i (omega arith) b)
+                ∙ ap₂ (λ (bs : List Booking) j. get_or bs j b) split (omega (arith, at) ∙ refl)
+                ∙ get_or-append-add xs (b ∷ ys) 0 b in
                 subst (λ c. Permᴰ bookings (c ∷ (take_out number (held t)).bookings)) (sym one)
                 (subst (λ (bs : List Booking). Permᴰ bs (b ∷ (take_out number (held t)).bookings)) (sym split)
                 (subst (λ (bs : List Booking). Permᴰ (xs ++ (b ∷ ys)) (b ∷ bs)) (sym rest) (to_front xs b ys)));

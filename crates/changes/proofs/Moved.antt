@@ -1,9 +1,9 @@
 -- Moving the clock on drops what stands before it from the right tables of a plain book, and leaves those of the bookings that still
 -- stand: an ended booking holds nothing from its end on, and its times are past.
-use mathlib.Core.Path.{◌≡◌, refl, sym, ap, ap₂, ◌∙◌}
+use mathlib.Core.Path.{◌≡◌, refl, ap}
 use mathlib.Core.List.{List, [], ◌∷◌, map, flatten}
 use mathlib.Core.Bool.{Bool, true, false, ◌||◌}
-use Prim.Native.Nat.{ℕ, ◌+◌, ◌-◌, ◌*◌, ◌≤◌, ◌<◌}
+use Prim.Native.Nat.{ℕ, ◌+◌, ◌-◌, ◌≤◌, ◌<◌}
 use native.Mathlib.Omega.{arith}
 use lib.Dec.{eqb, ltb}
 use lib.ListN.{length}
@@ -14,7 +14,7 @@ use Rattle.units.specs.Lists.{member, sum, select, cons_if}
 use Rattle.timeline.specs.Removal.{events_from, rows_from}
 use Rattle.timeline.proofs.Removed.{events_from_events}
 use Rattle.free_table.proofs.Tables.{table_from}
-use Rattle.rules.specs.Plain.{Booking, Plain, until, uses, times, taken, capacity, free}
+use Rattle.rules.specs.Plain.{Booking, Plain, until, uses, times, capacity, free}
 use Rattle.rules.specs.Calls.{move_to}
 use Rattle.rules.specs.Tables.{events_of}
 use Rattle.rules.proofs.Uses.{uses_behind, free_changes}

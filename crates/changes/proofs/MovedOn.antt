@@ -1,20 +1,19 @@
 -- The tables after a clock move: what stands before the clock is dropped from the first rows, and the places and the work of what has
 -- ended are dropped.
-use mathlib.Core.Path.{◌≡◌, refl, sym, ap, ap₂, ◌∙◌}
+use mathlib.Core.Path.{◌≡◌, refl, ap, ap₂, ◌∙◌}
 use mathlib.Core.List.{List, ◌++◌}
-use Prim.Native.Nat.{ℕ, ◌+◌, ◌-◌, ◌*◌, ◌≤◌, ◌<◌}
+use Prim.Native.Nat.{ℕ, ◌+◌, ◌*◌, ◌≤◌}
 use native.Mathlib.Omega.{arith}
 use lib.Dec.{ltb}
 use lib.ListN.{length, take, drop}
-use Rattle.units.specs.declared.Head.{Head}
 use Rattle.units.specs.declared.Link.{Link}
-use Rattle.units.specs.Limits.{most_links, most_events, most_bookings, last_minute, place_size}
+use Rattle.units.specs.Limits.{most_links, most_events, last_minute}
 use Rattle.units.proofs.Parts.{counted_one, length_part, select_part}
 use Rattle.timeline.specs.Removal.{events_from, rows_from}
 use Rattle.book.specs.Places.{booking_in}
 use Rattle.rules.specs.Plain.{Plain, until}
 use Rattle.rules.specs.Calls.{move_to}
-use Rattle.rules.specs.Tables.{Tables, tables, held, held_by, head_of, booking_at, events_of, book_table, totals_table, lent, Fine}
+use Rattle.rules.specs.Tables.{Tables, tables, held, head_of, booking_at, events_of, book_table, lent, Fine}
 use Rattle.rules.specs.Sound.{BookingRight, Obeys}
 use Rattle.rules.proofs.Obeys.{held_count}
 use Rattle.rules.proofs.Step.{obeys_move_to}

@@ -1,35 +1,20 @@
 -- The tables after an accepted call, table by table, and those of a desk that was just set up.
-use mathlib.Core.Path.{◌≡◌, refl, sym, ap, ap₂, ◌∙◌}
+use mathlib.Core.Path.{◌≡◌, refl, sym, ap, ◌∙◌}
 use mathlib.Core.List.{List, flatten}
-use mathlib.Core.Bool.{Bool}
-use Prim.Native.Nat.{ℕ, ◌+◌, ◌*◌, ◌≤◌, ◌<◌}
+use Prim.Native.Nat.{ℕ, ◌≤◌, ◌<◌}
 use native.Mathlib.Omega.{arith}
-use lib.ListN.{length, get_or, take, replicate, length-replicate}
+use lib.ListN.{length, get_or, replicate}
 use Rattle.units.specs.declared.Link.{Link}
 use Rattle.units.specs.declared.Head.{Head}
-use Rattle.units.specs.declared.Minute.{Minute}
-use Rattle.units.specs.declared.Request.{Request}
-use Rattle.units.specs.Limits.{most_links, most_bookings, most_events, most_hops, most_guard, place_size}
-use Rattle.units.specs.Lists.{sum, count_from, All}
-use Rattle.timeline.specs.Insertion.{Room}
-use Rattle.path_search.specs.declared.Path.{Path}
-use Rattle.places.specs.Places.{slot}
-use Rattle.book.specs.declared.Booking.{Booking as Place}
-use Rattle.book.specs.Places.{figures, with_booking, place_path}
+use Rattle.units.specs.Limits.{most_links, most_events}
+use Rattle.units.specs.Lists.{sum, count_from}
 use Rattle.plain_book.specs.Bookings as plain-book
 use Rattle.rules.specs.Plain.{Plain, no_link, empty, free}
-use Rattle.rules.specs.Calls.{put_in}
-use Rattle.rules.specs.Tables.{Tables, tables, held, place, head_of, held_by, event_table, free_table, book_table, totals_table, lent, Fine}
-use Rattle.rules.specs.Sound.{BookingRight, Obeys}
-use Rattle.changes.specs.Updating.{with_count, booked, Grantable}
-use Rattle.rules.proofs.Obeys.{held_count, right_in, all_right_in}
+use Rattle.rules.specs.Tables.{Tables, tables, held, head_of, event_table, free_table, book_table, totals_table, lent, Fine}
 use Rattle.rules.proofs.Tests.{Sized}
-use Rattle.changes.proofs.InOrder.{slot_inside, book_entered}
-use Rattle.rules.proofs.Fine.{sizes, book_obeys, links_are, events_are, free_are, totals_are}
-use Rattle.rules.proofs.Totals.{all_work_fits}
-use Rattle.totals.specs.Totals.{place_work, more_along, totals_of, AtMost, WorkRight}
-use Rattle.totals.proofs.Totals.{more_totals, totals_most}
-use Rattle.totals.proofs.Kept.{table_is, work_right}
+use Rattle.rules.proofs.Fine.{sizes, book_obeys, totals_are}
+use Rattle.totals.specs.Totals.{totals_of}
+use Rattle.totals.proofs.Kept.{table_is}
 use Rattle.units.specs.Columns.{column}
 use Rattle.units.proofs.Columns.{length_column, column_at}
 use Rattle.timeline.specs.EventTable.{only_clock}

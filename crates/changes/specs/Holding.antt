@@ -1,6 +1,6 @@
 -- What a booking holds in the events and the free figures of a plain book: taken when it is entered, given back when it is cancelled.
 use mathlib.Core.List.{List, map, flatten}
-use Rattle.std.specs.Prelude.{◌≡◌, Bool, cond, ℕ, ◌*◌, ◌≤◌, ◌<◌, length, get_or}
+use Rattle.std.specs.Prelude.{◌≡◌, Bool, cond, ℕ, ◌≤◌, ◌<◌, length, get_or}
 use Rattle.units.specs.Limits.{most_links, most_hops, last_minute, longest}
 use Rattle.units.specs.Lists.{member, padded, Within}
 use Rattle.units.specs.Spans.{span_of, release}

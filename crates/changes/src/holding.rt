@@ -36,7 +36,13 @@ pub(crate) fn hold(head: Head, events: &mut [u32], free: &mut [u32], b: RightBoo
     let minutes = interval(head, b);
     let b = b.booking;
     insert_span(events, free, minutes.start, minutes.end);
-    take_span(events, free, minutes, &b.links[..b.count as usize], b.bandwidth);
+    take_span(
+        events,
+        free,
+        minutes,
+        &b.links[..b.count as usize],
+        b.bandwidth,
+    );
 }
 
 // Whether a booking of the book starts or releases its links at a minute.
@@ -82,7 +88,13 @@ pub(crate) fn give_back(
 {
     let minutes = interval(head, b);
     let b = b.booking;
-    give_span(events, free, minutes, &b.links[..b.count as usize], b.bandwidth);
+    give_span(
+        events,
+        free,
+        minutes,
+        &b.links[..b.count as usize],
+        b.bandwidth,
+    );
     drop_event(head, events, free, book, minutes.start);
     drop_event(head, events, free, book, minutes.end);
 }

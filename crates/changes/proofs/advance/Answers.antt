@@ -1,5 +1,5 @@
 -- `advance` meets its contract: what stands before the clock is dropped in the rows that can be used.
-use Rattle.std.proofs.Common.{◌≡◌, ◌∙◌, ◌+◌, ◌*◌, ◌≤◌, length, arith}
+use Rattle.std.proofs.Common.{◌≡◌, ◌∙◌, ◌+◌, ◌*◌, length, arith}
 use Rattle.lent.specs.Lent.{tables_of}
 use Rattle.rules.specs.Calls.{move_to}
 use Rattle.rules.specs.Tables.{held}

@@ -1,9 +1,7 @@
 -- `reset` meets its contract: the clock and the capacities are written, and zeros else.
-use Rattle.std.proofs.Common.{◌≡◌, ap, ◌∙◌}
+use Rattle.std.proofs.Common.{ap, ◌∙◌}
 use borrow.Author.Rules.{rules}
-use native.Mathlib.Omega.{arith}
 use lib.ListN.{length}
-use Rattle.units.specs.Limits.{most_links}
 use Rattle.free_table.specs.Figures.{all_free}
 use Rattle.free_table.proofs.Tables.{all_free_part}
 use Rattle.lent.specs.Lent.{tables_of}

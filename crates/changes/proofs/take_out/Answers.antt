@@ -1,11 +1,10 @@
 -- `take_out` meets its contract: a number that stands is found, and what its booking held is given back in the rows that can be used.
-use Rattle.std.proofs.Common.{◌≡◌, refl, sym, ◌∙◌, ◌+◌, ◌-◌, ◌*◌, ◌≤◌, length, take, ap, subst, arith, ℕ}
+use Rattle.std.proofs.Common.{sym, ◌∙◌, ◌+◌, ◌-◌, ◌*◌, take, ap, subst, arith}
 use mathlib.Core.Bool.{false≢true}
-use Rattle.units.specs.Limits.{place_size, most_links}
-use Rattle.book.specs.Places.{booking_in, place_path}
+use Rattle.units.specs.Limits.{most_links}
+use Rattle.book.specs.Places.{place_path}
 use Rattle.changes.specs.Holding.{release_of, PlaceRight}
 use Rattle.totals.specs.Totals.{place_work, less_along, WorkRight}
-use Rattle.lent.specs.Lent.{tables_of}
 use Rattle.rules.specs.Tables.{held_by}
 use Rattle.changes.specs.Updating.{with_count}
 use Rattle.changes.specs.Holding.{GivesBack}
@@ -72,5 +71,5 @@ returns-clause-tables c =
     let rows = 1 + 2 * d.head.now.bookings in
     cancelled c.requires.fine c.args.number c.in-Some.place found c.remove_place.ensures
     (subst (λ b. GivesBack (held_by head c.remove_place.new.book) b.start.0 (release_of head b) b.bandwidth.0 (place_path b) (take rows d.events.now) (take (rows * most_links) d.free.now) c.give_back.new.events c.give_back.new.free)
-      c.booking_at-booking.ensures c.give_back.ensures)
+    c.booking_at-booking.ensures c.give_back.ensures)
     (c.drop_work.ensures ∙ ap (λ b. less_along (place_work b) (place_path b) d.totals.now) c.booking_at-booking.ensures)

@@ -1,7 +1,7 @@
 -- `is_time` meets its contract: one place more is looked at.
 use mathlib.Core.Bool.{◌||◌}
 use lib.Dec.{eqb}
-use Rattle.std.proofs.Common.{◌≡◌, ap, ◌∙◌, arith, ◌*◌, ◌+◌, ◌≤◌, length}
+use Rattle.std.proofs.Common.{◌≡◌, ap, ◌∙◌, arith}
 use Rattle.units.specs.Lists.{member}
 use Rattle.changes.proofs.Times.{times_from, times_all, times_none, times_before}
 use Rattle.changes.proofs.holding.is_time.Goals as goal
