@@ -2,31 +2,33 @@
 -- out or dropped in the book table is so in the book.
 use mathlib.Core.Path.{◌≡◌, refl, sym, ap, ap₂, subst, ◌∙◌}
 use mathlib.Core.List.Permᴰ
-use mathlib.Core.List.{List, [], ◌∷◌, ◌++◌}
+use mathlib.Core.List.{List, [], ◌∷◌, ◌++◌, map, append-nil, Permᴰ}
 use mathlib.Core.Bool.{Bool, true, false, not}
 use Prim.Native.Nat.{ℕ, suc, ◌+◌, ◌-◌, ◌*◌, ◌≤◌, ◌<◌}
 use native.Mathlib.Omega.{arith}
 use lib.Dec.{leb, ltb, eqb}
-use lib.ListN.{length, take, drop, length-append, length-drop, take-append-drop}
-use lib.Seq.{length-take-le}
+use lib.ListN.{length, get_or, take, drop, length-append, length-drop, take-append-drop}
+use lib.Seq.{get_or-append-add, length-take-le}
 use Rattle.std.specs.Prelude.{Option, Some}
 use Rattle.units.specs.declared.Link.{Link}
-use Rattle.units.specs.Limits.{most_bookings, place_size}
-use Rattle.units.specs.Lists.{select, Distinct}
+use Rattle.units.specs.declared.Head.{Head}
+use Rattle.units.specs.Limits.{most_hops, most_bookings, place_size}
+use Rattle.units.specs.Lists.{select, count_from, All, Distinct}
 use Rattle.units.proofs.Permuted.{all_permuted}
-use Rattle.units.proofs.Parts.{select_part, map_part, rising_part}
-use Rattle.units.proofs.Padded.{Rows}
+use Rattle.units.proofs.Parts.{select_part, map_part, rising_part, counted_one}
+use Rattle.units.proofs.Padded.{Rows, count_at}
 use Rattle.places.specs.Places.{find, slot, slot_among, with_place, without_place, still_standing, only_places, further}
 use Rattle.places.proofs.Found.{Place as Found, there, missing}
 use Rattle.places.proofs.Filled.{number_of, filled, find_filled, drop_filled, count_filled, slot_filled, insert_filled, remove_filled}
 use Rattle.book.specs.declared.Booking.{Booking as Place}
-use Rattle.book.specs.Places.{figures, with_booking}
+use Rattle.book.specs.Places.{figures, booking_in, with_booking}
 use Rattle.plain_book.specs.Bookings as plain-book
-use Rattle.rules.specs.Plain.{Booking, with_book, until}
+use Rattle.rules.specs.Plain.{Booking, Plain, with_book, until}
 use Rattle.rules.specs.Calls.{numbers, put_in, take_out, move_to}
-use Rattle.rules.specs.Tables.{Tables, tables, held, place, insert_by_number, by_number, book_table, Fine}
-use Rattle.rules.proofs.Book.{by_number_is, by_number_fixed, Short, place_rows}
-use Rattle.rules.proofs.Obeys.{sound_tables, held_count, all_short}
+use Rattle.rules.specs.Tables.{Tables, tables, held, held_by, head_of, place, booking_at, insert_by_number, by_number, book_table, Fine}
+use Rattle.rules.specs.Sound.{Obeys}
+use Rattle.rules.proofs.Book.{by_number_is, by_number_fixed, Short, place_rows, places_read, counts_short}
+use Rattle.rules.proofs.Obeys.{sound_tables, held_count, held_ordered, all_short}
 use Rattle.rules.proofs.Fine.{sizes, book_obeys, in_order}
 use Rattle.changes.proofs.Updates.{book_split, book_without}
 use Rattle.changes.specs.Updating.{with_clock}
@@ -41,6 +43,11 @@ slot_most n (c ∷ cs) = by (leb c.number n) (slot_most n cs)
     by : (x : Bool) → slot_among n (numbers cs) ≤ length cs → further x (slot_among n (numbers cs)) ≤ suc (length cs)
     by true ih = omega arith
     by false ih = omega arith
+
+-- a booking among others is as well put first
+to_front : (xs : List Booking) (b : Booking) (ys : List Booking) → Permᴰ (xs ++ (b ∷ ys)) (b ∷ (xs ++ ys))
+to_front [] b ys = Permᴰ.refl (b ∷ ys)
+to_front (x ∷ xs) b ys = Permᴰ.trans (Permᴰ.cons refl (to_front xs b ys)) (Permᴰ.swap refl refl)
 
 -- ---- sound tables
 
@@ -63,6 +70,33 @@ module _ {links : List Link} {t : Tables} (fine : Fine links t) where
       bookings : List Booking
       bookings = (held t).bookings
 
+  -- the booking that is read at a place, whatever stands past the last
+  booking_read : (i : ℕ) → i < t.head.bookings → (d : Booking) → get_or (held t).bookings i d ≡ booking_at t.book i
+  booking_read i h d =
+      let z : 0 + i ≡ i = omega arith in
+      ap (λ (bs : List Booking). get_or bs i d) (sym (append-nil (held t).bookings)) ∙ count_at d (booking_at t.book) [] 0 t.head.bookings i h ∙ ap (booking_at t.book) z
+
+  -- its path fits in its place
+  pub counts_right : (i : ℕ) → i < t.head.bookings → (booking_in t.book i).count ≤ most_hops
+  counts_right i h =
+      counted_one (booking_in t.book) (λ b. b.count ≤ most_hops) 0 (length bookings)
+      (subst (All (λ b. b.count ≤ most_hops)) (sym (ap (λ (book : List ℕ). map (booking_in book) (count_from 0 (length bookings))) book_filled ∙ places_read bookings short)) (counts_short bookings short))
+      i (omega arith) (omega (arith, held_count t))
+    where
+      bookings : List Booking
+      bookings = (held t).bookings
+
+      short : All Short bookings
+      short = all_short links (held t) (book_obeys fine)
+
+  -- some of the bookings in the book table, with their count, are those
+  pub held_part : (test : Booking → Bool) (p : Plain) {head : Head} {book : List ℕ} → p ≡ with_book p (select test (held t).bookings) → Obeys links p → head ≡ head_of links p → book ≡ book_table p → held_by head book ≡ p
+  unfolding tables
+  held_part test p same o is_head is_book =
+      ap₂ held_by is_head is_book ∙ held_ordered links p o
+      ∙ ap (with_book p) (ap (λ q. by_number q.bookings) same ∙ by_number_fixed 0 (select test (held t).bookings) (rising_part 0 (map_part (λ b. b.number) (select_part test (held t).bookings)) (in_order fine)))
+      ∙ sym same
+
   -- ---- a place taken out, where its number was found
 
   -- the place is one of those that are counted, and the book without it is that of the others
@@ -70,6 +104,7 @@ module _ {links : List Link} {t : Tables} (fine : Fine links t) where
     pub inside : i < t.head.bookings
     pub book_is : without_place place_size i t.book ≡ book_table (take_out number (held t))
     pub count_is : t.head.bookings - 1 ≡ length (take_out number (held t)).bookings
+    pub among : Permᴰ (held t).bookings (booking_at t.book i ∷ (take_out number (held t)).bookings)
 
   pub released : (number i : ℕ) → find place_size number t.book t.head.bookings ≡ Some i → Released number i
   released number i e =
@@ -95,6 +130,14 @@ module _ {links : List Link} {t : Tables} (fine : Fine links t) where
                 ∙ ap book_of (sym rest)
                 ∙ part_filled (λ c. not (eqb number c.number));
             count_is = omega (arith, ap length rest, length-append xs ys);
+            among =
+                let one : booking_at t.book i ≡ b =
+                sym (booking_read i (omega arith) b)
+                ∙ ap₂ (λ (bs : List Booking) j. get_or bs j b) split (omega (arith, at) ∙ refl)
+                ∙ get_or-append-add xs (b ∷ ys) 0 b in
+                subst (λ c. Permᴰ bookings (c ∷ (take_out number (held t)).bookings)) (sym one)
+                (subst (λ (bs : List Booking). Permᴰ bs (b ∷ (take_out number (held t)).bookings)) (sym split)
+                (subst (λ (bs : List Booking). Permᴰ (xs ++ (b ∷ ys)) (b ∷ bs)) (sym rest) (to_front xs b ys)));
           }
 
   -- ---- what has ended dropped

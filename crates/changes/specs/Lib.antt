@@ -1,1 +1,2 @@
 pub mod Updating
+pub mod Holding

@@ -2,36 +2,27 @@
 // nothing here refuses.
 #![tactic(auto)]
 
-ghost use Rattle.std.specs.Prelude.{◌≡◌, true, ◌≤◌, length};
-ghost use Rattle.units.specs.Limits.{last_minute, most_guard, most_totals};
+ghost use Rattle.std.specs.Prelude.{◌≡◌, true, ◌≤◌};
+ghost use Rattle.units.specs.Limits.{last_minute, most_guard};
 ghost use Rattle.rules.specs.Plain.{empty};
 ghost use Rattle.rules.specs.Calls.{stands, take_out, move_to, put_in};
-ghost use Rattle.rules.specs.Tables.{held, held_by, event_table, free_table, totals_table, lent, sized, tables, Fine};
+ghost use Rattle.rules.specs.Tables.{held, sized, tables, Fine};
 ghost use Rattle.lent.specs.Lent.{tables_of, SameLoans};
-ghost use Rattle.rebuild.specs.Rebuilding.{CanRebuild};
 ghost use Rattle.changes.specs.Updating.{booked, Grantable};
 
-use book::{Booking, insert_booking};
+mod holding;
+mod right;
+
+use book::{Booking, booking_at, insert_booking};
+use free_table::reset_free;
+use holding::{give_back, hold};
 use lent::Desk;
 use path_search::Path;
 use places::{drop_ended, find, remove_place, slot};
-use rebuild::{RightBooking, add_booking, rebuild};
-use totals::{add_work, write_totals};
-use units::{Duration, Head, Minute, PLACE, Request};
-
-// Writes a head, and the events, free figures and totals anew from it and the book.
-fn rebuild_desk(desk: &mut Desk<'_>, head: Head)
-    requires can { CanRebuild desk.old.links.now head desk.old.book.now desk.old.events.now desk.old.free.now }
-    requires totals_sized { length desk.old.totals.now ≡ most_totals }
-    ensures loans { SameLoans desk.old desk.new }
-    ensures tables { let p = held_by head desk.old.book.now in tables_of desk.new ≡ lent head (event_table p) (free_table desk.old.links.now p) desk.old.book.now (totals_table desk.old.links.now p) }
-{
-    let links = desk.links;
-    let book = &mut *desk.book;
-    rebuild(head, links, desk.events, desk.free, book);
-    write_totals(head, book, desk.totals);
-    *desk.head = head;
-}
+use right::RightBooking;
+use timeline::{drop_before, reset_events};
+use totals::{add_work, drop_ended_work, drop_work};
+use units::{Duration, Head, Minute, PLACE, ROW, Request, column};
 
 // The tables of a desk that was just set up with a guard.
 pub fn reset(desk: &mut Desk<'_>, guard: Duration)
@@ -46,8 +37,13 @@ pub fn reset(desk: &mut Desk<'_>, guard: Duration)
         bookings: 0,
         guard,
     };
+    let links = desk.links;
+    let capacities = column(links, |link| link.capacity.0);
+    reset_events(desk.events, head.clock);
+    reset_free(desk.free, &capacities[..links.len()]);
     desk.book.fill(0);
-    rebuild_desk(desk, head);
+    desk.totals.fill(0);
+    *desk.head = head;
 }
 
 // Takes out the booking of a number, which stands.
@@ -62,22 +58,35 @@ pub fn take_out(desk: &mut Desk<'_>, number: u32)
     let Some(place) = find(book, PLACE, head.bookings as usize, number) else {
         return;
     };
+    let booking = booking_at(book, place);
+    let rows = 1 + 2 * head.bookings as usize;
     remove_place(book, PLACE, place);
     head.bookings -= 1;
-    rebuild_desk(desk, head);
+    let events = &mut desk.events[..rows];
+    let free = &mut desk.free[..rows * ROW];
+    give_back(head, events, free, book, RightBooking { booking });
+    drop_work(desk.totals, booking);
+    *desk.head = head;
 }
 
 // Moves the clock on and drops what has ended.
 pub fn advance(desk: &mut Desk<'_>, minute: Minute)
     requires fine { Fine desk.old.links.now (tables_of desk.old) }
     requires in_range { minute.0 ≤ last_minute }
+    requires onward { desk.old.head.now.clock.0 ≤ minute.0 }
     ensures loans { SameLoans desk.old desk.new }
     ensures tables { tables_of desk.new ≡ tables desk.old.links.now (move_to minute.0 (held (tables_of desk.old))) }
 {
     let mut head = *desk.head;
+    let rows = 1 + 2 * head.bookings as usize;
+    let events = &mut desk.events[..rows];
+    let free = &mut desk.free[..rows * ROW];
+    drop_before(events, free, minute);
     head.clock = minute;
-    head.bookings = drop_ended(head, desk.book, PLACE) as u32;
-    rebuild_desk(desk, head);
+    let book = &mut *desk.book;
+    drop_ended_work(head, book, desk.totals);
+    head.bookings = drop_ended(head, book, PLACE) as u32;
+    *desk.head = head;
 }
 
 // Enters an accepted booking: its place in the book, its events, its bandwidth taken from each link of its path, and its work
@@ -101,7 +110,10 @@ pub fn enter(desk: &mut Desk<'_>, number: u32, request: Request, start: Minute, 
     let book = &mut *desk.book;
     let place = slot(book, PLACE, head.bookings as usize, number);
     insert_booking(book, place, booking);
-    add_booking(head, desk.events, desk.free, RightBooking { booking });
+    let rows = 3 + 2 * head.bookings as usize;
+    let events = &mut desk.events[..rows];
+    let free = &mut desk.free[..rows * ROW];
+    hold(head, events, free, RightBooking { booking });
     add_work(desk.totals, booking);
     head.bookings += 1;
     *desk.head = head;

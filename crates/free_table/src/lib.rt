@@ -11,11 +11,13 @@ ghost use Rattle.free_table.specs.Taking.{less_rows, less_span, Sized};
 mod interval;
 mod masks;
 mod missing;
+mod spans;
 mod view;
 
 pub use interval::Interval;
 pub use masks::{Masks, no_masks, row_mask};
 pub use missing::Missing;
+pub use spans::{give_span, take_span};
 use timeline::row_at;
 use units::{Bandwidth, LinkNumber, Minute, ROW};
 pub use view::FreeTable;

@@ -101,7 +101,7 @@ module _ {head : Head} {book : List ℕ} (fits : BookFits head book) {places lef
   releases_next r enough = let b = next_fits fits r.counted some word in record {
     counted = rest_counted fits r.counted some word;
     sized = length_less (next_bandwidth book left) (next_path book left) t ∙ r.sized;
-    sum = λ l. omega (arith, less_at (next_bandwidth book left) (next_path book left) t b.links_differ (rw r.sized b.links_right) (next_enough r enough) l, rest_uses fits r.counted some word l, r.sum l);
+    sum = λ l. omega (arith, less_at (next_bandwidth book left) (next_path book left) t b.links_differ (rw r.sized b.links_right) l, rest_uses fits r.counted some word l, r.sum l, next_used r enough l);
   }
 
 -- where no place is left, nothing is

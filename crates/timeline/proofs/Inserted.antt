@@ -76,25 +76,25 @@ module _ (f : ℕ → List ℕ) (k : ℕ) (sized : (e : ℕ) → length (f e) �
 
 module _ (c m : ℕ) (ts : List ℕ) where
   -- how many of the later events stand before a new one
-  abbrev place : ℕ
+  abbrev pub place : ℕ
   place = slot m (later c ts)
 
   -- the events before it, and those behind it
-  front : List ℕ
+  pub front : List ℕ
   front = c ∷ take place (later c ts)
 
-  back : List ℕ
+  pub back : List ℕ
   back = drop place (later c ts)
 
-  joined : front ++ back ≡ events c ts
+  pub joined : front ++ back ≡ events c ts
   unfolding front back
   joined = ap (λ (l : List ℕ). c ∷ l) (take-append-drop place (later c ts))
 
-  length_front : length front ≡ suc place
+  pub length_front : length front ≡ suc place
   unfolding front
   length_front = ap suc (length-take-le place (later c ts) (slot_le m (later c ts)))
 
-  around : c < m → member m (later c ts) ≡ false → front ++ (m ∷ back) ≡ events c (m ∷ ts)
+  pub around : c < m → member m (later c ts) ≡ false → front ++ (m ∷ back) ≡ events c (m ∷ ts)
   unfolding front back
   around h a = ap (λ (l : List ℕ). c ∷ l) (sym (later_inserts c m ts h ∙ insert_split m (later c ts) a))
 
@@ -185,7 +185,7 @@ pub changes_more : {A : Type 0} {ts : List ℕ} {f : ℕ → A} (x : ℕ) → Ch
 changes_more x s e m h q = s e m h (λ y i. q y (Memᴰ.tail i))
 
 -- one time more makes no fewer events
-fewer : (c m : ℕ) (ts : List ℕ) → length (events c ts) ≤ length (events c (m ∷ ts))
+pub fewer : (c m : ℕ) (ts : List ℕ) → length (events c ts) ≤ length (events c (m ∷ ts))
 fewer c m ts = by (arrival c m ts)
   where
     by : Arrival c m ts → length (events c ts) ≤ length (events c (m ∷ ts))

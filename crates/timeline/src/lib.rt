@@ -1,9 +1,10 @@
-// The event table and the rows beside it, as their owner lends them: the row that holds in a minute, and one event, or the two
-// of a span, put in with a copy of the row before. The free table and the desk call this; it never looks at what a row
-// holds. `timeline_c` exports its functions to C.
+// The event table and the rows beside it, as their owner lends them: the row that holds in a minute; one event, or the two
+// of a span, put in with a copy of the row before; an event taken out with its row, and all before a minute. The free table and the
+// desk call this; it never looks at what a row holds. `timeline_c` exports functions of it to C.
 #![tactic(auto)]
 
 ghost use Rattle.std.specs.Prelude.{◌≡◌, [], ◌∷◌, ◌+◌, ◌≤◌, ◌<◌, length, take};
+ghost use Rattle.timeline.specs.Removal.{drop_front, without_event, without_row, events_from, rows_from, RowsSized};
 ghost use Rattle.units.specs.Limits.{most_links};
 ghost use Rattle.units.specs.Lists.{put_piece};
 ghost use Rattle.timeline.specs.Events.{row_at};
@@ -70,4 +71,45 @@ pub fn insert_span(events: &mut [u32], rows: &mut [u32], start: Minute, end: Min
 {
     insert_event(events, rows, end);
     insert_event(events, rows, start);
+}
+
+// Drops the first figures of the part: those behind them move down, with zeros behind.
+fn drop_front(part: &mut [u32], count: usize)
+    requires { count ≤ length part.old }
+    ensures { part.new ≡ drop_front count part.old }
+{
+    if count == 0 {
+        return;
+    }
+    let kept = part.len() - count;
+    part.copy_within(count.., 0);
+    part[kept..].fill(0);
+}
+
+// Takes the event that holds in a minute out with its row; the clock stays.
+#[tactic(auto, using(crate::proofs::Rows::row_inside))]
+pub fn remove_event(events: &mut [u32], rows: &mut [u32], minute: Minute)
+    requires { RowsSized events.old rows.old }
+    ensures { (events.new ≡ without_event minute.0 events.old)
+        × (rows.new ≡ without_row most_links events.old minute.0 rows.old) }
+{
+    let row = row_at(events, minute);
+    if row == 0 {
+        return;
+    }
+    drop_front(&mut rows[row * ROW..], ROW);
+    drop_front(&mut events[row..], 1);
+}
+
+// Moves the clock on to a minute: the row that holds then is the first, and those before it are dropped.
+#[tactic(auto, using(crate::proofs::Rows::row_inside))]
+pub fn drop_before(events: &mut [u32], rows: &mut [u32], minute: Minute)
+    requires { RowsSized events.old rows.old }
+    ensures { (events.new ≡ events_from minute.0 events.old)
+        × (rows.new ≡ rows_from most_links events.old minute.0 rows.old) }
+{
+    let row = row_at(events, minute);
+    drop_front(rows, row * ROW);
+    drop_front(events, row);
+    events[0] = minute.0;
 }

@@ -16,8 +16,8 @@ use Rattle.book.specs.declared.Booking.{Booking as Place}
 use Rattle.book.specs.Places.{booking_in, place_path}
 use Rattle.rules.specs.Plain.{Booking, sold_by}
 use Rattle.rules.specs.Tables.{booking_of, booking_at}
-use Rattle.units.specs.Along.{more_along}
-use Rattle.units.proofs.Along.{length_more, more_at}
+use Rattle.units.specs.Along.{more_along, less_along}
+use Rattle.units.proofs.Along.{length_more, more_at, length_less, less_at}
 use Rattle.totals.specs.Totals.{place_work, totals_of, AtMost, WorkRight, CanTotal}
 use Rattle.rules.proofs.Totals.{WorkFits, sold_by_most}
 use Rattle.rules.proofs.Standing.{bookings_from, length_from, none_from, next_from}
@@ -44,6 +44,23 @@ more_totals b r bs = ext_get_or 0 more (totals_of (booking_of b ∷ bs)) (length
     at : {l : ℕ} → l < most_totals → get_or more l 0 ≡ get_or (totals_of (booking_of b ∷ bs)) l 0
     at {l} h =
         more_at (place_work b) (place_path b) (totals_of bs) r.links_differ (rw length_sums r.links_right) l
+        ∙ rw (sum_at bs l h, sum_at (booking_of b ∷ bs) l h) (omega arith)
+
+-- ---- one booking less
+
+pub less_totals : (b : Place) → WorkRight b → (bs : List Booking) → less_along (place_work b) (place_path b) (totals_of (booking_of b ∷ bs)) ≡ totals_of bs
+unfolding sum
+less_totals b r bs = ext_get_or 0 fewer (totals_of bs) (length_of_fewer ∙ sym (length_sums bs)) (λ l inside. at (omega (arith, length_of_fewer)))
+  where
+    fewer : List ℕ
+    fewer = less_along (place_work b) (place_path b) (totals_of (booking_of b ∷ bs))
+
+    length_of_fewer : length fewer ≡ most_totals
+    length_of_fewer = length_less (place_work b) (place_path b) (totals_of (booking_of b ∷ bs)) ∙ length_sums (booking_of b ∷ bs)
+
+    at : {l : ℕ} → l < most_totals → get_or fewer l 0 ≡ get_or (totals_of bs) l 0
+    at {l} h =
+        less_at (place_work b) (place_path b) (totals_of (booking_of b ∷ bs)) r.links_differ (rw length_sums r.links_right) l
         ∙ rw (sum_at bs l h, sum_at (booking_of b ∷ bs) l h) (omega arith)
 
 -- ---- the most that they can be

@@ -1,16 +1,16 @@
-// The sold work of each link, kept ready: a booking's work added to the totals of its links, and all totals anew from a head and its
-// book. Booking adds one; cancelling, moving the clock and the soundness check go through all. Nothing here knows what is free.
+// The sold work of each link, kept ready: a booking's work added to the totals of its links or dropped from them, and all totals anew
+// from a head and its book. Booking adds one, cancelling drops one; the soundness check goes through all. Nothing here knows what is free.
 #![tactic(auto)]
 
 ghost use Rattle.std.specs.Prelude.{◌≡◌, true, ◌↔◌, length};
 ghost use Rattle.units.specs.Limits.{most_totals, most_bookings};
-ghost use Rattle.units.specs.Along.{more_along};
+ghost use Rattle.units.specs.Along.{more_along, less_along};
 ghost use Rattle.book.specs.Places.{place_path};
 ghost use Rattle.rules.specs.Tables.{held_by};
-ghost use Rattle.totals.specs.Totals.{place_work, totals_of, AtMost, WorkRight, CanTotal};
+ghost use Rattle.totals.specs.Totals.{place_work, without_ended, still_standing, totals_of, AtMost, WorkRight, CanTotal};
 
 use book::{Booking, booking_at};
-use units::{Head, TOTALS, work_of};
+use units::{Head, TOTALS, release, work_of};
 
 // Adds a booking's work to the total of each link of its path.
 #[tactic(auto, using(units::proofs::Along::more_done))]
@@ -23,6 +23,42 @@ pub fn add_work(totals: &mut [u64], booking: Booking)
     let work = work_of(booking.bandwidth, booking.duration);
     for &link in &booking.links[..booking.count as usize] {
         totals[link as usize] += work.0;
+    }
+}
+
+// Drops a booking's work from the total of each link of its path.
+#[tactic(auto, using(units::proofs::Along::less_next, units::proofs::Along::less_done))]
+pub fn drop_work(totals: &mut [u64], booking: Booking)
+    requires right { WorkRight booking }
+    requires sized { length totals.old ≡ most_totals }
+    ensures { totals.new ≡ less_along (place_work booking) (place_path booking) totals.old }
+{
+    let work = work_of(booking.bandwidth, booking.duration);
+    for &link in &booking.links[..booking.count as usize] {
+        totals[link as usize] = totals[link as usize].saturating_sub(work.0);
+    }
+}
+
+// The same, where the booking has ended at the head's clock.
+fn drop_if_ended(head: Head, totals: &mut [u64], booking: Booking)
+    requires right { WorkRight booking }
+    requires sized { length totals.old ≡ most_totals }
+    ensures { totals.new ≡ without_ended head booking totals.old }
+{
+    if (head.clock.0 as u64) < release(head, booking.start, booking.duration) {
+        return;
+    }
+    drop_work(totals, booking);
+}
+
+// Drops the work of those bookings of the head that have ended at its clock.
+pub fn drop_ended_work(head: Head, book: &[u32], totals: &mut [u64])
+    requires can { CanTotal head book.now }
+    requires were { totals.old ≡ totals_of (held_by head book.now).bookings }
+    ensures { totals.new ≡ totals_of (still_standing head book.now) }
+{
+    for place in 0..head.bookings as usize {
+        drop_if_ended(head, totals, booking_at(book, place));
     }
 }
 

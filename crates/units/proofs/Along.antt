@@ -60,8 +60,8 @@ module _ (t : List ℕ) (l : ℕ) (inside : l < length t) where
   pub added_at : (x j : ℕ) → get_or (set t l (get_or t l 0 + x)) j 0 ≡ get_or t j 0 + if_so (eqb j l) x
   added_at x j = put_at (get_or t l 0 + x) j (λ y. y ≡ get_or t j 0 + if_so (eqb j l) x) (λ e. rw (e, eq-eqb l l refl) (omega arith)) (λ d. rw (ne_eqb j l d) (omega arith))
 
-  pub taken_at : (x j : ℕ) → x ≤ get_or t l 0 → get_or (set t l (get_or t l 0 - x)) j 0 + if_so (eqb j l) x ≡ get_or t j 0
-  taken_at x j h = put_at (get_or t l 0 - x) j (λ y. y + if_so (eqb j l) x ≡ get_or t j 0) (λ e. rw (e, eq-eqb l l refl) (omega arith)) (λ d. rw (ne_eqb j l d) (omega arith))
+  pub taken_at : (x j : ℕ) → get_or (set t l (get_or t l 0 - x)) j 0 ≡ get_or t j 0 - if_so (eqb j l) x
+  taken_at x j = put_at (get_or t l 0 - x) j (λ y. y ≡ get_or t j 0 - if_so (eqb j l) x) (λ e. rw (e, eq-eqb l l refl) refl) (λ d. rw (ne_eqb j l d) (omega arith))
 
   -- what the other places had is there still
   pub others_kept : (x y : ℕ) (ls : List ℕ) → ¬ Memᴰ l ls → All (λ m. x ≤ get_or t m 0) ls → All (λ m. x ≤ get_or (set t l y) m 0) ls
@@ -80,18 +80,19 @@ more_at x (l ∷ ls) t d a j =
     absent_next : eqb j l ≡ true → member j ls ≡ false
     absent_next e = rw (eqb-true j l e) (absent_test l ls d.0)
 
-pub less_at : (x : ℕ) (path : List ℕ) (t : List ℕ) → Distinct path → All (λ l. l < length t) path → All (λ l. x ≤ get_or t l 0) path
-    → (j : ℕ) → get_or (less_along x path t) j 0 + if_so (member j path) x ≡ get_or t j 0
-unfolding less_along member
-less_at x [] t d a h j = omega arith
-less_at x (l ∷ ls) t d a h j =
-    sym (once (eqb j l) (member j ls) (get_or (less_along x ls t') j 0) x (λ e. absent_next e))
-    ∙ (let swap = less_at x ls t' d.1 (rw length-set a.1) (others_kept t l a.0 x (get_or t l 0 - x) ls d.0 h.1) j in omega (arith, swap))
-    ∙ taken_at t l a.0 x j h.0
-  where
-    t' : List ℕ
-    t' = set t l (get_or t l 0 - x)
+less_once : (u v : Bool) (a w : ℕ) → (u ≡ true → v ≡ false) → a - if_so u w - if_so v w ≡ a - if_so (u || v) w
+less_once true true a w h = absurd (true≢false (h refl))
+less_once true false a w h = omega arith
+less_once false v a w h = omega arith
 
+pub less_at : (x : ℕ) (path : List ℕ) (t : List ℕ) → Distinct path → All (λ l. l < length t) path → (j : ℕ) → get_or (less_along x path t) j 0 ≡ get_or t j 0 - if_so (member j path) x
+unfolding less_along member
+less_at x [] t d a j = omega arith
+less_at x (l ∷ ls) t d a j =
+    less_at x ls (set t l (get_or t l 0 - x)) d.1 (rw length-set a.1) j
+    ∙ ap (λ y. y - if_so (member j ls) x) (taken_at t l a.0 x j)
+    ∙ less_once (eqb j l) (member j ls) (get_or t j 0) x (λ e. absent_next e)
+  where
     absent_next : eqb j l ≡ true → member j ls ≡ false
     absent_next e = rw (eqb-true j l e) (absent_test l ls d.0)
 

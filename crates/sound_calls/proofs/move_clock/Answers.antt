@@ -27,6 +27,11 @@ advance-requires-clause-in_range c =
     let d = c.args.desk.now in
     leb-true _ _ (passed d.links.now (tables_of d) c.requires (Ask.move_clock c.args.minute.0) refl c.in_ok-check_clock.ensures).0
 
+pub advance-requires-clause-onward : goal.advance-requires-clause-onward
+advance-requires-clause-onward c =
+    let d = c.args.desk.now in
+    leb-true _ _ (passed d.links.now (tables_of d) c.requires (Ask.move_clock c.args.minute.0) refl c.in_ok-check_clock.ensures).1.0
+
 pub returns-clause-answer : goal.returns-clause-answer
 returns-clause-answer c =
     let d = c.args.desk.now in
