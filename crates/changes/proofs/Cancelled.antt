@@ -6,6 +6,7 @@ use native.Mathlib.Omega.{arith}
 use lib.Dec.{eqb}
 use mathlib.Core.Bool.{not}
 use lib.ListN.{length, take, drop}
+use Rattle.units.specs.Along.{less_along}
 use Rattle.units.specs.declared.Link.{Link}
 use Rattle.units.specs.Limits.{most_links, most_events, most_totals, place_size}
 use Rattle.units.specs.Lists.{count_from, padded}
@@ -21,7 +22,7 @@ use Rattle.rules.proofs.Obeys.{held_count, events_permuted, free_permuted, sold_
 use Rattle.rules.proofs.Step.{obeys_take_out}
 use Rattle.rules.proofs.Fine.{sizes, book_obeys, few_bookings, links_are}
 use Rattle.changes.specs.Holding.{release_of, PlaceRight, events_in, free_in}
-use Rattle.totals.specs.Totals.{place_work, less_along, WorkRight}
+use Rattle.totals.specs.Totals.{place_work, WorkRight}
 use Rattle.totals.proofs.Totals.{less_totals}
 use Rattle.totals.proofs.Kept.{table_is, work_right}
 use Rattle.changes.specs.Updating.{with_count}

@@ -4,6 +4,7 @@ use mathlib.Core.List.{List, ◌++◌}
 use Prim.Native.Nat.{ℕ, ◌+◌, ◌*◌, ◌≤◌, ◌<◌}
 use native.Mathlib.Omega.{arith}
 use lib.ListN.{length, take, drop}
+use Rattle.units.specs.Along.{more_along}
 use Rattle.units.specs.declared.Link.{Link}
 use Rattle.units.specs.declared.Minute.{Minute}
 use Rattle.units.specs.declared.Request.{Request}
@@ -23,7 +24,7 @@ use Rattle.rules.proofs.Obeys.{held_count, all_right_in}
 use Rattle.changes.proofs.InOrder.{slot_inside, book_entered}
 use Rattle.rules.proofs.Fine.{sizes, book_obeys, links_are}
 use Rattle.rules.proofs.Totals.{all_work_fits}
-use Rattle.totals.specs.Totals.{place_work, more_along, AtMost, WorkRight}
+use Rattle.totals.specs.Totals.{place_work, AtMost, WorkRight}
 use Rattle.totals.proofs.Totals.{more_totals, totals_most}
 use Rattle.totals.proofs.Kept.{table_is, work_right}
 use Rattle.rules.specs.Tables.{events_of}

@@ -9,6 +9,7 @@ use native.Mathlib.Omega.{arith}
 use lib.Dec.{ltb}
 use lib.ListN.{length, get_or}
 use lib.Seq.{ext_get_or}
+use Rattle.units.specs.Along.{less_along}
 use Rattle.units.specs.declared.Head.{Head}
 use Rattle.units.specs.Limits.{most_totals}
 use Rattle.units.specs.Lists.{sum, select, cons_if}
@@ -17,7 +18,7 @@ use Rattle.book.specs.Places.{booking_in, place_path}
 use Rattle.rules.specs.Plain.{Booking, until, work, sold_by}
 use Rattle.rules.specs.Tables.{booking_at, held_by}
 use Rattle.rules.proofs.Standing.{bookings_from, all_from, none_from, next_from}
-use Rattle.totals.specs.Totals.{place_work, less_along, without_ended, still_standing, totals_of, WorkRight, CanTotal}
+use Rattle.totals.specs.Totals.{place_work, without_ended, still_standing, totals_of, WorkRight, CanTotal}
 use Rattle.units.proofs.Along.{length_less, less_at}
 use Rattle.totals.proofs.Totals.{length_sums, sum_at}
 

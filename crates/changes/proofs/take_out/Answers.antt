@@ -1,10 +1,11 @@
 -- `take_out` meets its contract: a number that stands is found, and what its booking held is given back in the rows that can be used.
 use Rattle.std.proofs.Common.{sym, ◌∙◌, ◌+◌, ◌-◌, ◌*◌, take, ap, subst, arith}
 use mathlib.Core.Bool.{false≢true}
+use Rattle.units.specs.Along.{less_along}
 use Rattle.units.specs.Limits.{most_links}
 use Rattle.book.specs.Places.{place_path}
 use Rattle.changes.specs.Holding.{release_of, PlaceRight}
-use Rattle.totals.specs.Totals.{place_work, less_along, WorkRight}
+use Rattle.totals.specs.Totals.{place_work, WorkRight}
 use Rattle.rules.specs.Tables.{held_by}
 use Rattle.changes.specs.Updating.{with_count}
 use Rattle.changes.specs.Holding.{GivesBack}

@@ -2,7 +2,7 @@
 use Rattle.std.proofs.Common.{sym, ap, ◌∙◌, ◌+◌, drop, slice_set, arith}
 use lib.ListN.{get_or, length-set}
 use Rattle.book.specs.Places.{place_path}
-use Rattle.totals.specs.Totals.{less_along}
+use Rattle.units.specs.Along.{less_along}
 use Rattle.units.proofs.Along.{less_next}
 use Rattle.totals.proofs.drop_work.Goals as goal
 

@@ -1,7 +1,7 @@
 -- `drop_work` meets its contract: the work is dropped from the links before `link`, and what is left is to drop from the others.
+use Rattle.units.specs.Along.{less_along}
 use Rattle.std.proofs.Common.{◌≡◌, drop, length}
 use Rattle.book.specs.Places.{place_path}
-use Rattle.totals.specs.Totals.{less_along}
 use Rattle.totals.proofs.drop_work.Given as goal
 
 abbrev pub invariant-loop-link : goal.invariant-loop-link
