@@ -1,16 +1,22 @@
--- The check of a path, link by link: what each test of a link tells, and the table that marks the nodes met.
-use mathlib.Core.Path.{◌≡◌, sym, ap, ◌∙◌}
+-- The check of a path, link by link: what each test of a link tells, and the set of the nodes met.
+use mathlib.Core.Path.{◌≡◌, refl, sym, ap, ap₂, ◌∙◌}
 use mathlib.Core.List.{List, [], ◌∷◌}
-use mathlib.Core.Bool.{Bool, true, false, ◌||◌}
-use Prim.Native.Nat.{ℕ, suc, ◌+◌, ◌≤◌, ◌<◌}
+use Rattle.std.proofs.Math.Bool.{or-false, or_comm}
+use Rattle.std.proofs.lemmas.Nat.{and_comm}
+use Rattle.std.specs.Int.Bits.{bit_and, bit_or}
+use mir.Syntax.{w32}
+use mathlib.Core.Bool.{Bool, true, false, ◌||◌, and-eq-true_iff}
+use Prim.Native.Nat.{ℕ, suc, ◌+◌, ◌*◌, ◌^◌, ◌%◌, ◌≤◌, ◌<◌}
 use native.Mathlib.Numerals.{add-one}
 use native.Mathlib.Omega.{arith}
 use lib.Dec.{ltb, eqb}
 use lib.ListN.{length, get_or, set, drop, replicate, get_or-replicate, length-set, drop_of_length-le}
 use lib.Seq.{get_or-set_same, get_or-set_other, drop-cons}
-use borrow.Author.Tests.{lt-ltb, le-ltb, le-leb, eq-eqb, ne_eqb}
+use borrow.Author.Tests.{lt-ltb, le-ltb, le-leb, eq-eqb, eqb-true, ne_eqb}
 use Rattle.units.specs.Limits.{last_node, most_hops}
 use Rattle.units.specs.Lists.{member}
+use Rattle.units.specs.Sets.{has}
+use Rattle.units.proofs.Sets.{has_one, has_or, has_and, some_has, none_common}
 use Rattle.units.proofs.Tests.{Order, less, same, more, order}
 use Rattle.path_search.proofs.Loops.{NodesBelow}
 use Rattle.path_search.specs.Paths.{Graph, goes_on, first_node, path_ok}
@@ -21,25 +27,32 @@ use Rattle.rules.proofs.Tests.{links_tell, nodes_below}
 
 -- ---- the nodes met
 
--- the table marks the nodes of the list and no others
-abbrev pub Marks : List Bool → List ℕ → Type 0
-Marks marks met = (n : ℕ) → n ≤ last_node → get_or marks n false ≡ member n met
+-- `1 << v`
+abbrev pub alone : ℕ → ℕ
+alone v = 1 * 2 ^ v % 2 ^ 32
 
-pub marks_none : Marks (replicate (suc last_node) false) []
+-- the set has the nodes of the list and no others
+abbrev pub Marks : ℕ → List ℕ → Type 0
+Marks marks met = (n : ℕ) → has marks n ≡ member n met
+
+marks_one : (v : ℕ) → v ≤ last_node → Marks (alone v) (v ∷ [])
 unfolding member
-marks_none n h = get_or-replicate (suc last_node) n false false (omega arith)
+marks_one v h n = has_one w32 v n (omega arith) ∙ sym (or-false (eqb n v))
 
-pub marks_more : (marks : List Bool) (met : List ℕ) (v : ℕ) → v < length marks → Marks marks met → Marks (set marks v true) (v ∷ met)
+marks_more : (marks : ℕ) (met : List ℕ) (v : ℕ) → v ≤ last_node → Marks marks met → Marks (bit_or marks (alone v)) (v ∷ met)
 unfolding member
-marks_more marks met v h m n k = by (order n v)
-  where
-    other : (n ≡ v → ⊥) → get_or (set marks v true) n false ≡ (eqb n v || member n met)
-    other d = get_or-set_other marks v n true false d ∙ m n k ∙ ap (λ t. t || member n met) (sym (ne_eqb n v d))
+marks_more marks met v h m n = has_or marks (alone v) n ∙ ap₂ ◌||◌ (m n) (has_one w32 v n (omega arith)) ∙ or_comm (member n met) (eqb n v)
 
-    by : Order n v → get_or (set marks v true) n false ≡ (eqb n v || member n met)
-    by (less d) = other (λ e. omega arith)
-    by (same e) = ap (λ j. get_or (set marks v true) j false) e ∙ get_or-set_same marks v true false h ∙ ap (λ t. t || member n met) (sym (eq-eqb n v e))
-    by (more d) = other (λ e. omega arith)
+-- whether a node is among them
+was_marked : (marks v : ℕ) → v ≤ last_node → ¬ (bit_and marks (alone v) ≡ 0) → has marks v ≡ true
+was_marked marks v h some =
+    let one = some_has (bit_and marks (alone v)) (omega arith) in
+    let both = (and-eq-true_iff (has marks one.0) (has (alone v) one.0)).0 (sym (has_and marks (alone v) one.0) ∙ one.1) in
+    let is : one.0 ≡ v = eqb-true one.0 v (sym (has_one w32 v one.0 (omega arith)) ∙ both.1) in
+    ap (has marks) (sym is) ∙ both.0
+
+was_not : (marks v : ℕ) → v ≤ last_node → bit_and marks (alone v) ≡ 0 → has marks v ≡ false
+was_not marks v h none = none_common (alone v) marks v (and_comm (alone v) marks ∙ none) (has_one w32 v v (omega arith) ∙ eq-eqb v v refl)
 
 -- ---- the links of a path
 
@@ -90,8 +103,7 @@ Same links path node seen i =
     let g = graph links in goes_on g (first_node g path) (first_node g path ∷ []) path ≡ goes_on g node seen (drop i path)
 
 -- the links before i go on from one to the next, `node` is where they end, and the marks are the nodes that they meet
-pub record Going (links : List Link) (path : List ℕ) (node : ℕ) (marks : List Bool) (i : ℕ) : Type 0 where
-  pub marks_long : length marks ≡ suc last_node
+pub record Going (links : List Link) (path : List ℕ) (node marks i : ℕ) : Type 0 where
   pub seen : List ℕ
   pub marked : Marks marks seen
   pub same : Same links path node seen i
@@ -106,17 +118,16 @@ module _ (links : List Link) (right : links_ok links ≡ true) (path : List ℕ)
     first : first_node (graph links) path ≡ start.from
     first = ap (first_node (graph links)) (path_rest path 0 some) ∙ ap (λ l. l.from) (sym is)
 
-    pub going_first : Going links path start.from (set (replicate (suc last_node) false) start.from true) 0
+    pub going_first : Going links path start.from (alone start.from) 0
     going_first =
         let h : start.from ≤ last_node = omega (arith, from_node links (get_or path 0 0) right known, ap (λ l. l.from) is) in
         record {
-          marks_long = length-set (replicate (suc last_node) false) start.from true;
           seen = start.from ∷ [];
-          marked = marks_more (replicate (suc last_node) false) [] start.from (omega arith) marks_none;
+          marked = marks_one start.from h;
           same = ap (λ v. goes_on (graph links) v (v ∷ []) path) first;
         }
 
-  module _ (few : length path ≤ most_hops) (node : ℕ) (marks : List Bool) (i : ℕ) (g : Going links path node marks i) (here : i < length path) where
+  module _ (few : length path ≤ most_hops) (node marks i : ℕ) (g : Going links path node marks i) (here : i < length path) where
     abbrev pub number : ℕ
     number = get_or path i 0
 
@@ -138,29 +149,28 @@ module _ (links : List Link) (right : links_ok links ≡ true) (path : List ℕ)
       end_right : next.to ≤ last_node
       end_right = omega (arith, to_node links number right known, end_is)
 
-      was_met : member (link links number).to g.seen ≡ get_or marks next.to false
-      was_met = ap (λ n. member n g.seen) (sym end_is) ∙ sym (g.marked next.to end_right)
+      was_met : member (link links number).to g.seen ≡ has marks next.to
+      was_met = ap (λ n. member n g.seen) (sym end_is) ∙ sym (g.marked next.to)
 
       module _ (begins : next.from ≡ node) where
         begins_here : (link links number).from ≡ node
         begins_here = ap (λ l. l.from) (sym is) ∙ begins
 
-        pub stops_again : get_or marks next.to false ≡ true → path_ok (graph links) path ≡ false
-        stops_again e = turn ∙ going_again links number node g.seen (drop (i + 1) path) known begins_here (was_met ∙ e)
+        pub stops_again : ¬ (bit_and marks (alone next.to) ≡ 0) → path_ok (graph links) path ≡ false
+        stops_again e = turn ∙ going_again links number node g.seen (drop (i + 1) path) known begins_here (was_met ∙ was_marked marks next.to end_right e)
 
-        pub goes_further : get_or marks next.to false ≡ false → Going links path next.to (set marks next.to true) (i + 1)
+        pub goes_further : bit_and marks (alone next.to) ≡ 0 → Going links path next.to (bit_or marks (alone next.to)) (i + 1)
         goes_further e =
             record {
-              marks_long = length-set marks next.to true ∙ g.marks_long;
               seen = next.to ∷ g.seen;
-              marked = marks_more marks g.seen next.to (omega (arith, g.marks_long, end_right)) g.marked;
+              marked = marks_more marks g.seen next.to end_right g.marked;
               same =
                   g.same
                   ∙ ap (goes_on (graph links) node g.seen) (path_rest path i here)
-                  ∙ going_on links number node g.seen (drop (i + 1) path) known begins_here (was_met ∙ e)
+                  ∙ going_on links number node g.seen (drop (i + 1) path) known begins_here (was_met ∙ was_not marks next.to end_right e)
                   ∙ ap (λ n. goes_on (graph links) n (n ∷ g.seen) (drop (i + 1) path)) (sym end_is);
             }
 
-  pub goes_whole : 0 < length path → length path ≤ most_hops → (node : ℕ) (marks : List Bool) (i : ℕ) → Going links path node marks i → length path ≤ i → path_ok (graph links) path ≡ true
+  pub goes_whole : 0 < length path → length path ≤ most_hops → (node marks i : ℕ) → Going links path node marks i → length path ≤ i → path_ok (graph links) path ≡ true
   unfolding goes_on
   goes_whole some few node marks i g past = path_some (graph links) path some few ∙ g.same ∙ ap (goes_on (graph links) node g.seen) (drop_of_length-le path past)

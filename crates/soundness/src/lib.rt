@@ -18,7 +18,6 @@ use book::{Booking, booking_at};
 use checked::CheckedLinks;
 use lent::LentTables;
 use limits::{guard_ok, links_right, number_ok};
-use path_search::NODES;
 use row_changes::rows_right;
 use timeline::rising;
 use totals::totals_right;
@@ -40,17 +39,17 @@ fn path_right(links: CheckedLinks<'_>, booking: Booking) -> bool
         return false;
     };
     let mut node = start.from;
-    let mut met = [false; NODES];
-    met[node as usize] = true;
+    let mut met: u32 = 1 << node;
     for &number in path {
         let Some(link) = links.get(number as usize) else {
             return false;
         };
-        if link.from != node || met[link.to as usize] {
+        let end: u32 = 1 << link.to;
+        if link.from != node || met & end != 0 {
             return false;
         }
         node = link.to;
-        met[node as usize] = true;
+        met |= end;
     }
     true
 }

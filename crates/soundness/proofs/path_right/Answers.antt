@@ -6,7 +6,7 @@ use Rattle.units.specs.Limits.{most_hops}
 use Rattle.book.specs.Places.{place_path}
 use Rattle.soundness.proofs.Going.{going_first, stops_first, stops_past, stops_elsewhere, stops_again, goes_further, goes_whole}
 use Rattle.soundness.proofs.path_right.Goals as goal
-use Rattle.soundness.proofs.path_right.Goals.{Start, In-Some, then-link-node-via-then-link-node, then-link-node-via-else-link-node+then-met-link}
+use Rattle.soundness.proofs.path_right.Goals.{Start, In-Some, then-link-node-via-then-link-node, then-link-node-via-else-link-node+then-met-end-ne0}
 
 few : (c : Start) → length (place_path c.args.booking) ≤ most_hops
 few c = omega (arith, length-take c.args.booking.count c.args.booking.links, c.requires)
@@ -38,14 +38,14 @@ returns-then-link-node c =
     let found = c.in-Some-get-2.ensures.lookup.3 in
     elim c.then-link-node.branch [
       | then-link-node-via-then-link-node w ↦ sym (stops_elsewhere _ c.args.links.right _ least _ _ _ c.loop-number.invariant c.loop-number-test.true _ found.0 (found.1 no_link) w.if-link-node.true)
-      | then-link-node-via-else-link-node+then-met-link w ↦
-          sym (stops_again _ c.args.links.right _ least _ _ _ c.loop-number.invariant c.loop-number-test.true _ found.0 (found.1 no_link) w.if-link-node.false w.if-met-link.true)
+      | then-link-node-via-else-link-node+then-met-end-ne0 w ↦
+          sym (stops_again _ c.args.links.right _ least _ _ _ c.loop-number.invariant c.loop-number-test.true _ found.0 (found.1 no_link) w.if-link-node.false w.if-met-end-ne0.true)
     ]
 
 pub loop-number-preserved : goal.loop-number-preserved
 loop-number-preserved c =
     let found = c.in-Some-get-2.ensures.lookup.3 in
-    goes_further _ c.args.links.right _ (few (goal.at.loop-number-preserved c).Start) _ _ _ c.loop-number.invariant c.loop-number-test.true _ found.0 (found.1 no_link) c.if-link-node.false c.if-met-link.false
+    goes_further _ c.args.links.right _ (few (goal.at.loop-number-preserved c).Start) _ _ _ c.loop-number.invariant c.loop-number-test.true _ found.0 (found.1 no_link) c.if-link-node.false c.if-met-end-ne0.false
 
 pub returns : goal.returns
 returns c =
