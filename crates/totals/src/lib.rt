@@ -2,28 +2,42 @@
 // from a head and its book. Booking adds one, cancelling drops one; the soundness check goes through all. Nothing here knows what is free.
 #![tactic(auto)]
 
-ghost use Rattle.std.specs.Prelude.{◌≡◌, true, ◌↔◌, length};
-ghost use Rattle.units.specs.Limits.{most_totals, most_bookings};
+ghost use Rattle.std.specs.Prelude.{◌≡◌, true, ◌↔◌, ◌≤◌, ◌<◌, length};
+ghost use Rattle.units.specs.Limits.{most_totals, most_bookings, most_hops};
+ghost use Rattle.units.specs.Lists.{All};
+ghost use Rattle.units.specs.Work.{most_work};
 ghost use Rattle.units.specs.Along.{more_along, less_along};
 ghost use Rattle.book.specs.Places.{place_path};
 ghost use Rattle.rules.specs.Tables.{held_by};
 ghost use Rattle.totals.specs.Totals.{place_work, without_ended, still_standing, totals_of, AtMost, WorkRight, CanTotal};
 
-use book::{Booking, booking_at};
-use units::{Head, TOTALS, release, work_of};
+use book::{Booking, booking_at, path_at};
+use units::{Head, TOTALS, Work, release, work_of};
+
+// Adds work to the total of each link of a path.
+#[tactic(auto, using(units::proofs::Along::more_done))]
+fn add_along(totals: &mut [u64], path: &[u32], work: Work)
+    requires fits { work.0 ≤ most_work }
+    requires short { length path.now ≤ most_hops }
+    requires on_list { All (λ l. l < most_totals) path.now }
+    requires sized { length totals.old ≡ most_totals }
+    requires few { AtMost most_bookings totals.old }
+    ensures { totals.new ≡ more_along work.0 path.now totals.old }
+{
+    for &link in path {
+        totals[link as usize] += work.0;
+    }
+}
 
 // Adds a booking's work to the total of each link of its path.
-#[tactic(auto, using(units::proofs::Along::more_done))]
 pub fn add_work(totals: &mut [u64], booking: Booking)
     requires right { WorkRight booking }
     requires sized { length totals.old ≡ most_totals }
     requires few { AtMost most_bookings totals.old }
     ensures { totals.new ≡ more_along (place_work booking) (place_path booking) totals.old }
 {
-    let work = work_of(booking.bandwidth, booking.duration);
-    for &link in &booking.links[..booking.count as usize] {
-        totals[link as usize] += work.0;
-    }
+    let path = &booking.links[..booking.count as usize];
+    add_along(totals, path, work_of(booking.bandwidth, booking.duration));
 }
 
 // Drops a booking's work from the total of each link of its path.
@@ -70,7 +84,9 @@ pub fn write_totals(head: Head, book: &[u32], totals: &mut [u64])
 {
     totals.fill(0);
     for place in (0..head.bookings as usize).rev() {
-        add_work(totals, booking_at(book, place));
+        let booking = booking_at(book, place);
+        let work = work_of(booking.bandwidth, booking.duration);
+        add_along(totals, path_at(book, place), work);
     }
 }
 
