@@ -4,7 +4,9 @@
 use desk_tests::break_offs;
 use desk_tests::calls::{bad_link, guard, list_size, long_guard, net, pick, style};
 use desk_tests::cases::cases;
-use desk_tests::damages::{damage, forged, other_guards, resize, unsound, wrong_totals, WRONG_TOTALS};
+use desk_tests::damages::{
+    damage, forged, other_guards, resize, unsound, wrong_events, wrong_totals, WRONG_TOTALS,
+};
 use desk_tests::exported::{self, fresh};
 use desk_tests::guards;
 use desk_tests::plain::{Answer, Call, Desk};
@@ -264,6 +266,23 @@ fn damages_of_the_totals() {
     });
     println!("{} wrong totals refused 3: {kinds:?}", kinds.values().sum::<u32>());
     assert!(kinds.len() == WRONG_TOTALS && kinds.values().all(|&count| count >= 50), "{kinds:?}");
+}
+
+/// Events with a mistake, each row moved with its event: refused 3 by every call, or 13 for a list of another length.
+#[test]
+fn damages_of_the_events() {
+    let mut random = Random::new(SEED + 4);
+    let mut kinds = std::collections::BTreeMap::new();
+    each_desk(SEED, |desk, place| {
+        for (what, mut held) in wrong_events(&mut random, desk) {
+            let call = any_call(&mut random, desk);
+            let refusal = judged(&desk.links, &mut held, &call, &format!("{place}, {what}"));
+            assert_ne!(refusal, 0, "{place}, {what}: {call:?}");
+            *kinds.entry(what).or_insert(0) += (refusal == 3) as u32;
+        }
+    });
+    println!("{} tables with wrong events refused 3: {kinds:?}", kinds.values().sum::<u32>());
+    assert!(kinds.len() == 4 && kinds.values().all(|&count| count >= 1_000), "{kinds:?}");
 }
 
 /// The refusals of a question for sold work, in the order in which they are tried.
