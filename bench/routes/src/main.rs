@@ -35,16 +35,37 @@ fn compiled(asked: &Asked) -> Path {
     find_route(&asked.compiled)
 }
 
+/// The links that can be used, as the search of an earlier revision takes them.
+#[cfg(before_flags)]
+#[repr(C)]
+struct SetBefore {
+    has: Usable,
+}
+
+#[cfg(all(before, not(before_flags)))]
+use routes_tests::LinkSet as SetBefore;
+
+#[cfg(before_flags)]
+fn set_before(asked: &Asked) -> SetBefore {
+    SetBefore { has: asked.usable }
+}
+
+#[cfg(all(before, not(before_flags)))]
+fn set_before(asked: &Asked) -> SetBefore {
+    asked.question().set
+}
+
 /// The compiled search of an earlier revision.
 #[cfg(before)]
 fn before(asked: &Asked) -> Path {
-    use routes_tests::{LinkEnds, LinkSet};
+    use routes_tests::LinkEnds;
     extern "C" {
-        fn find_route_before(ends: LinkEnds, set: LinkSet, source: u32, destination: u32) -> Path;
+        fn find_route_before(ends: LinkEnds, set: SetBefore, source: u32, destination: u32)
+            -> Path;
     }
     let q = asked.question();
-    // Safe: the question is in range, and the search's declaration has not changed.
-    unsafe { find_route_before(q.ends, q.set, q.source, q.destination) }
+    // Safe: the question is in range, and the set has the form that the revision declares (bench/run looks).
+    unsafe { find_route_before(q.ends, set_before(asked), q.source, q.destination) }
 }
 
 fn same_rounds(asked: &Asked) -> Path {

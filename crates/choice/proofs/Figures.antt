@@ -1,6 +1,6 @@
 -- A choice depends on nothing but the links and the figures of the window: on the tables of any figure function that
 -- changes only at the times it is the choice by that function. The desk's use of `choose` goes through these laws.
-use mathlib.Core.Path.{◌≡◌, ap}
+use mathlib.Core.Path.{◌≡◌, refl, ap}
 use mathlib.Core.List.{List}
 use mathlib.Core.Bool.{Bool}
 use Prim.Native.Nat.{ℕ, ◌≤◌, ◌<◌}
@@ -34,3 +34,10 @@ module _ (places links : ℕ) (f : ℕ → ℕ → ℕ) (small : links ≤ most_
   carries_shown m l h k =
       all_from_agree (λ j. suffices bandwidth (shown l j)) (λ j. suffices bandwidth (f l j)) m _
       (λ j a b. ap (suffices bandwidth) (kept_figure links f small places c ts l j (s l k) k (omega arith)))
+
+  -- the choice by the tables is the choice by the figures
+  pub choose_shown : (g : Graph) → g.count ≡ links → (from to low latest : ℕ) → c ≤ low
+      → choose g (carries shown bandwidth duration) from to low latest ≡ choose g (carries f bandwidth duration) from to low latest
+  choose_shown g e from to low latest early =
+      choose_agree g g (carries shown bandwidth duration) (carries f bandwidth duration) from to low latest
+      (λ m a b. record { count = refl; from = λ l h. refl; to = λ l h. refl; usable = λ l h. carries_shown m l (omega arith) (omega arith) })

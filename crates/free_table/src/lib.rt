@@ -28,7 +28,9 @@ pub fn reset_free(free: &mut [u32], capacities: &[u32])
     ensures { free.new ≡ all_free (length free.old) (length capacities.now) capacities.now }
 {
     free.fill(0);
-    free[..capacities.len()].copy_from_slice(capacities);
+    for (link, &capacity) in capacities.iter().enumerate() {
+        free[link] = capacity;
+    }
 }
 
 // Takes bandwidth from one link in every row of the part. The part starts at the row of the start, so nothing before it

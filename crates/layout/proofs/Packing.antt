@@ -15,7 +15,7 @@ use Rattle.units.specs.Lists.{sum, All}
 use Rattle.layout.specs.Layout.{big_endian, cut, pack, fits, spelled}
 
 -- a field of the lower part of a number, from that part alone
-lower : (hi lo j w k : ℕ) → lo < 2 ^ (j + (w + k)) → (hi * 2 ^ (j + (w + k)) + lo) / 2 ^ k % 2 ^ w ≡ lo / 2 ^ k % 2 ^ w
+pub lower : (hi lo j w k : ℕ) → lo < 2 ^ (j + (w + k)) → (hi * 2 ^ (j + (w + k)) + lo) / 2 ^ k % 2 ^ w ≡ lo / 2 ^ k % 2 ^ w
 lower hi lo j w k h =
     sym (field (hi * 2 ^ (j + (w + k)) + lo) w k)
     ∙ ap (λ x. x / 2 ^ k) (sym (mod-mod-pow (hi * 2 ^ (j + (w + k)) + lo) j (w + k)) ∙ ap (λ x. x % 2 ^ (w + k)) (low hi (j + (w + k)) h))

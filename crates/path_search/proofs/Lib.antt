@@ -4,6 +4,7 @@ pub mod Loops
 pub mod Routes
 pub mod Paths
 pub mod InRange
+pub mod Answers
 pub mod Agree
 pub mod Needed
 pub mod Theorems

@@ -8,29 +8,34 @@ use mathlib.Core.Bool.{Bool, true, false}
 use Prim.Native.Nat.{ℕ, suc, ◌-◌, ◌≤◌}
 use native.Mathlib.Decide.{dec_le}
 use native.Mathlib.Omega.{arith}
-use lib.ListN.{length, take, replicate}
+use lib.ListN.{length, get_or, take, replicate}
+use lib.Dec.{eqb}
 use lib.Seq.{take-append_seam}
 use Rattle.std.proofs.Common.{Option, Some, unwrap_or}
 use Rattle.units.specs.Limits.{last_node, most_hops}
 use Rattle.units.specs.Lists.{All, Within, padded}
+use Rattle.units.specs.Sets.{has}
 use Rattle.units.proofs.Search.{first_from_nothing, clash, not_true}
 use Rattle.path_search.specs.declared.ends.LinkEnds.{LinkEnds}
+use Rattle.path_search.specs.declared.Layers.{Layers}
 use Rattle.path_search.specs.declared.LinkSet.{LinkSet}
+use Rattle.path_search.specs.declared.Network.{Network}
 use Rattle.path_search.specs.declared.Path.{Path}
 use Rattle.path_search.specs.declared.RoundsDone.{RoundsDone}
 use Rattle.path_search.specs.Paths.{Graph, Route, along, none, reaches, fewest, route_of, route}
-use Rattle.path_search.specs.Answer.{graph, usable, path_of, found_path, answer}
+use Rattle.path_search.specs.Answer.{graph, usable, graph_of, usable_in, path_of, found_path, answer}
 use Rattle.path_search.specs.Right.{Joins, Chosen, Right, chosen, no_chain}
 use Rattle.path_search.specs.Rounds.{Shows, distance}
+use Rattle.path_search.specs.Layers.{LayersOf, LayersIn}
 use Rattle.path_search.specs.Needed.{most_needed}
-use Rattle.path_search.specs.RightRounds.{FigureRight, needs, none_leads, RoundsRight}
+use Rattle.path_search.specs.RightRounds.{FigureRight, needs, none_leads, RoundsRight, LayersRight}
 use Rattle.path_search.proofs.Chains.{Way, chain_reaches, reaches_iff}
 use Rattle.path_search.proofs.Loops.{NodesBelow}
 use Rattle.path_search.proofs.Routes.{route_stays, short_way, IsRoute, is_route_only, is_route_distinct, RouteView, found, no_chain as no_way, route_view}
 use Rattle.path_search.proofs.Paths.{chain_leads, route_path}
 use Rattle.path_search.proofs.InRange.{nodes_below}
-use Rattle.path_search.proofs.Needed.{fewest_needs, most_right}
-use Rattle.path_search.proofs.DistanceLaws.{Says, fewest_are, none_yet, distance_says}
+use Rattle.path_search.proofs.Needed.{fewest_needs, needs_fewest, most_right}
+use Rattle.path_search.proofs.DistanceLaws.{Says, fewest_are, none_yet, distance_says, distance_tells}
 
 module _ (g : Graph) (usable : ℕ → Bool) (source destination : ℕ) where
   joins_way : (path : List ℕ) → Joins g usable source destination path → Way g usable destination source path
@@ -142,6 +147,23 @@ distances_right ends set destination done shows number last =
       number = number;
       last = last;
     }
+
+-- and so are the rounds of a search
+layers_are : (g : Graph) (usable : ℕ → Bool) → NodesBelow g (suc last_node) → (layers : Layers) → LayersOf g usable layers → LayersRight g usable layers.destination layers
+layers_are g usable below layers made =
+    record {
+      node = λ near v a b.
+          let e : has (get_or layers.nodes near 0) v ≡ eqb (distance g usable layers.destination last_node v) near = made.nodes near a v b in
+          let tells = distance_tells g usable layers.destination v near a in
+          ((λ h. fewest_needs g usable layers.destination v near (tells.0 (sym e ∙ h))), λ n. e ∙ tells.1 (needs_fewest g usable layers.destination v near n));
+      most = most_needed g usable layers.destination;
+      is_most = most_right g usable layers.destination below;
+      number = made.number;
+    }
+
+-- by what `layers` promises
+pub layers_right : (network : Network) (layers : Layers) → LayersIn network layers → LayersRight (graph_of network) (usable_in network) layers.destination layers
+layers_right network layers made = layers_are (graph_of network) (usable_in network) (nodes_below network.net.now.ends) layers made
 
 -- while all links of a path that was found can be used there is a path
 pub found_stays : (g : Graph) (some more : ℕ → Bool) (source destination : ℕ) (p : Path) → found_path (route g some destination source) ≡ Some p

@@ -52,8 +52,11 @@ impl LineWriter<'_> {
         requires { HasRoom (decimal value) self.old }
         ensures { Writes (decimal value) self.old self.new }
     {
-        let digits = value.max(1).ilog10() as usize + 1;
-        let end = self.at + digits;
+        if value < 10 {
+            self.write_bytes(&[b'0' + value as u8]);
+            return;
+        }
+        let end = self.at + value.ilog10() as usize + 1;
         write_digits(value, self.out, end);
         self.at = end;
     }

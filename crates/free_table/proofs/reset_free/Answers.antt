@@ -1,12 +1,16 @@
--- `reset_free` meets its contract: the capacities are written over the first zeros.
-use Rattle.std.proofs.Common.{◌++◌, length, drop, sym, ap, ap₂, ◌∙◌}
+-- `reset_free` meets its contract: behind the loop all capacities stand before the rest of the zeros.
+use Rattle.std.proofs.Common.{◌≡◌, ◌++◌, length, take, drop, replicate, sym, ap, ap₂, ◌∙◌, arith}
+use Rattle.std.proofs.Math.Seq.{take-length}
 use Rattle.std.proofs.lemmas.List.{drop-replicate}
 use Rattle.free_table.proofs.Tables.{all_free_whole}
 use Rattle.free_table.proofs.reset_free.Goals as goal
 
 pub returns : goal.returns
 returns c =
-    let a = c.args in
-    ap₂ ◌++◌ c.copy_from_slice.ensures.after
-    (ap (drop (length a.capacities.now)) (c.fill.ensures.after (λ y e. e)) ∙ drop-replicate (length a.capacities.now) (length a.free.now) 0)
-    ∙ sym (all_free_whole (length a.free.now) a.capacities.now)
+    let capacities = c.args.capacities.now in
+    let figures = length c.args.free.now in
+    let all : c.loop-link.link ≡ length capacities = omega arith in
+    c.loop-link.invariant
+    ∙ ap (λ i. take i capacities ++ drop i (replicate figures 0)) all
+    ∙ ap₂ ◌++◌ (take-length capacities) (drop-replicate (length capacities) figures 0)
+    ∙ sym (all_free_whole figures capacities)

@@ -1,16 +1,22 @@
--- The digits stand in their place, and end where their count says.
+-- One digit is written as it is. More stand in their place, and end where their count says.
 use Rattle.std.proofs.Common.{◌≡◌, ◌+◌, ◌++◌, refl, ap, sym, ◌∙◌, ℕ, List, length, take, drop, add-one, rules, arith}
 use Rattle.std.proofs.lemmas.List.{take-append-drop}
 use Rattle.report.specs.Decimal.{decimal}
 use Rattle.report.specs.Written.{Wrote}
-use Rattle.report.proofs.Decimals.{as_printed, digit_count}
+use Rattle.report.proofs.Decimals.{short, as_printed, digit_count}
 use Rattle.report.proofs.LineWriter.write_decimal.Goals as goal
 use Rattle.report.proofs.LineWriter.write_decimal.Goals.{After-ilog10}
 
 count : (k : After-ilog10) → length (decimal k.args.value) ≡ k.ilog10.result + 1
 count k =
     let e = k.ilog10.ensures in
-    rw add-one (digit_count k.args.value k.ilog10.result (omega (arith, e.power_le, k.max.ensures)) (omega (arith, e.next_power_gt, k.max.ensures)))
+    rw add-one (digit_count k.args.value k.ilog10.result (omega (arith, e.power_le)) (omega (arith, e.next_power_gt)))
+
+pub write_bytes-requires : goal.write_bytes-requires
+write_bytes-requires c = omega (arith, c.requires, ap length (short c.args.value c.if-value-lt10.true))
+
+pub returns-then-value-lt10 : goal.returns-then-value-lt10
+returns-then-value-lt10 c = rw (short c.args.value c.if-value-lt10.true) c.write_bytes.ensures
 
 pub write_digits-requires : goal.write_digits-requires
 write_digits-requires c =
